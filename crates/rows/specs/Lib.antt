@@ -1,0 +1,2 @@
+-- A table of tests in order.
+pub mod Rows

@@ -1,0 +1,1 @@
+// Tables of tests in order, and their laws. This crate has no code of its own.

@@ -1,0 +1,2 @@
+-- Laws of bytes and words.
+pub mod WordsLaws
