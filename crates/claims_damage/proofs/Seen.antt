@@ -1,0 +1,152 @@
+-- Which damage the frame check sees: the exact line, and what follows from it. Assumes nothing.
+--     exact            damage passes the frame check exactly where it is unseen
+--     odd              a position flipped an odd number of times: refused
+--     one-byte         one wrong byte: refused
+--     burst            a burst within eight consecutive data bits: refused, whichever bit of a byte goes first
+--     first-hit        the first byte hit: refused
+--     second-hit       LGE hit: refused
+--     long-promise     16 bytes received and LGE reading 254: 13
+use mathlib.Core.Path.{_≡_, refl, sym, ap, _∙_}
+use mathlib.Core.Bool.{Bool, true, false}
+use mathlib.Core.List.{List, [], _∷_, _++_, zipWith}
+use mathlib.Core.Logic.{_↔_}
+use Prim.Native.Nat.{ℕ, zero, suc, _+_, _-_, _*_, _/_, _%_, _^_, _≤_, _<_}
+use native.Mathlib.Nat.{zero-div}
+use native.Mathlib.Omega.{arith}
+use borrow.Author.Tests.{le-ltb, eq-eqb, ne-eqb}
+use lib.Bits.{bitXor, xor-self, xor-zero-r}
+use lib.Dec.{lit≤}
+use lib.ListN.{length, take}
+use lib.Seq.{take-suc, take-length}
+use Rattle.words.specs.Words.{byteAt, Bytes}
+use Rattle.frame.specs.Bcc.{xorAll}
+use Rattle.frame.specs.Frame.{frameOf, lastOf, isSound, frameNumber}
+use Rattle.frame.specs.declared.FrameFault.{FrameFault}
+use Rattle.frame.specs.declared.FrameFault.the-variants.{Short, Start, Length, Count, Check}
+use Rattle.frame.specs.declared.FrameCheck.{FrameCheck}
+use Rattle.frame.specs.declared.FrameCheck.the-variants.{Sound, Broken}
+use Rattle.frame.proofs.XorLaws.{xor-snoc, xor-all-lt, xor-eq, xor-fix, length-zip, getD-zip, xor-zip}
+use Rattle.frame.proofs.FrameLaws.{Counted, Framed, framed, sound}
+use Rattle.claims_damage.specs.Damage.{damaged, Damage, bit, flips, Passes, Refuses, Unseen, Hit, OneByte, bitAt, Order, Burst}
+use Rattle.claims_damage.proofs.Parity.{zero-digits, one-digit, digit-parity, single}
+
+-- ---- the check byte is right exactly where the XOR of the whole is 0
+
+split-last : (t : List ℕ) → 0 < length t → xorAll t ≡ bitXor (xorAll (take (lastOf t) t)) (byteAt t (lastOf t))
+split-last t h =
+    let n : suc (lastOf t) ≡ length t = omega arith in
+    let e : t ≡ take (lastOf t) t ++ byteAt t (lastOf t) ∷ [] =
+    sym (take-length t) ∙ ap (λ (k : ℕ). take k t) (sym n) ∙ take-suc t (lastOf t) 0 (omega arith) in
+    ap xorAll e ∙ xor-snoc (take (lastOf t) t) (byteAt t (lastOf t))
+
+zero-of-check : (t : List ℕ) → 0 < length t → byteAt t (lastOf t) ≡ xorAll (take (lastOf t) t) → xorAll t ≡ 0
+zero-of-check t h e = split-last t h ∙ ap (λ (x : ℕ). bitXor (xorAll (take (lastOf t) t)) x) e ∙ xor-self (xorAll (take (lastOf t) t))
+
+check-of-zero : (t : List ℕ) → 0 < length t → xorAll t ≡ 0 → byteAt t (lastOf t) ≡ xorAll (take (lastOf t) t)
+check-of-zero t h e = sym (xor-eq (xorAll (take (lastOf t) t)) (byteAt t (lastOf t)) (sym (split-last t h) ∙ e))
+
+-- ---- the exact line
+
+module _ (t f : List ℕ) (d : Damage t f) where
+  -- the XOR of what is received is that of the flips
+  xor-damaged : xorAll (damaged t f) ≡ xorAll f
+  xor-damaged =
+      let p = framed t (d .passes) in
+      xor-zip t f (d .same) ∙ ap (λ (x : ℕ). bitXor x (xorAll f)) (zero-of-check t (omega arith) (p .check))
+
+  unseen : Passes (damaged t f) → Unseen f
+  unseen h =
+      let p = framed t (d .passes) .counted in
+      let q = framed (damaged t f) h in
+      let n = length-zip t f (d .same) in
+      let z : xorAll f ≡ 0 = sym xor-damaged ∙ zero-of-check (damaged t f) (omega (arith, q .counted .long)) (q .check) in
+      record {
+        first = xor-fix (byteAt t 0) (byteAt f 0) (sym (getD-zip t f 0 (d .same)) ∙ q .counted .start ∙ sym (p .start));
+        second = xor-fix (byteAt t 1) (byteAt f 1) (sym (getD-zip t f 1 (d .same)) ∙ omega (arith, p .count, q .counted .count, n));
+        even = λ k hk. sym (digit-parity k f) ∙ ap (λ (x : ℕ). bit k x) z ∙ ap (λ (x : ℕ). x % 2) (zero-div (2 ^ k));
+      }
+
+  kept : (i : ℕ) → byteAt f i ≡ 0 → byteAt (damaged t f) i ≡ byteAt t i
+  kept i e = getD-zip t f i (d .same) ∙ ap (λ (x : ℕ). bitXor (byteAt t i) x) e ∙ xor-zero-r (byteAt t i)
+
+  passed : Unseen f → Passes (damaged t f)
+  passed u =
+      let p = framed t (d .passes) .counted in
+      let n = length-zip t f (d .same) in
+      let b0 = kept 0 (u .first) in
+      let b1 = kept 1 (u .second) in
+      let z : xorAll f ≡ 0 = zero-digits 8 (xorAll f) (xor-all-lt f (d .bytes)) (λ k hk. digit-parity k f ∙ u .even k hk) in
+      ap isSound (sound (damaged t f)
+      (record {
+        counted = record {
+          long = omega (arith, p .long, n);
+          start = b0 ∙ p .start;
+          low = omega (arith, b1, p .low);
+          high = omega (arith, b1, p .high);
+          count = omega (arith, b1, n, p .count);
+        };
+        check = check-of-zero (damaged t f) (omega (arith, p .long, n)) (xor-damaged ∙ z);
+      }))
+
+pub exact : (t f : List ℕ) → Damage t f → Passes (damaged t f) ↔ Unseen f
+exact t f d = (unseen t f d, passed t f d)
+
+-- ---- what does not pass is refused with 10 to 14
+
+pub refuses : (t : List ℕ) → (Passes t → ⊥) → Refuses t
+refuses t never = go (frameOf t) refl
+  where
+    numbered : (k : FrameFault) → (10 ≤ frameNumber k) × (frameNumber k ≤ 14)
+    numbered Short = (lit≤ tt, lit≤ tt)
+    numbered Start = (lit≤ tt, lit≤ tt)
+    numbered Length = (lit≤ tt, lit≤ tt)
+    numbered Count = (lit≤ tt, lit≤ tt)
+    numbered Check = (lit≤ tt, lit≤ tt)
+
+    go : (r : FrameCheck) → frameOf t ≡ r → Refuses t
+    go (Sound end) e = absurd (never (ap isSound e))
+    go (Broken k) e = record { fault = k; answer = e; least = numbered k .0; most = numbered k .1 }
+
+-- ---- what is always seen
+
+zero-unless-one : (x : ℕ) → (x % 2 ≡ 1 → ⊥) → x % 2 ≡ 0
+zero-unless-one x never = omega arith
+
+pub odd : (t f : List ℕ) → Damage t f → (k : ℕ) → k < 8 → flips k f % 2 ≡ 1 → Refuses (damaged t f)
+odd t f d k hk o = refuses (damaged t f) (λ h. omega (arith, exact t f d .0 h .even k hk))
+
+pub one-byte : (t f : List ℕ) → Damage t f → (i : ℕ) → OneByte f i → Refuses (damaged t f)
+one-byte t f d i w =
+    let b = one-digit 8 (byteAt f i) (d .bytes i) (w .wrong) in
+    let s : flips (b .0) f ≡ 1 =
+    single (b .0) f i (b .2) (λ j ne. ap (λ (x : ℕ). bit (b .0) x) (w .rest j ne) ∙ ap (λ (x : ℕ). x % 2) (zero-div (2 ^ (b .0)))) in
+    odd t f d (b .0) (b .1) (ap (λ (x : ℕ). x % 2) s)
+
+pub burst : (t f : List ℕ) → Damage t f → (order : ℕ → ℕ) → Order order → (from : ℕ) → Burst order f from → Refuses (damaged t f)
+burst t f d order ordered from b =
+    let p = b .place in
+    let k = order (p % 8) in
+    let s : flips k f ≡ 1 =
+    single k f (p / 8) (b .flip)
+    (λ j ne. zero-unless-one (byteAt f j / 2 ^ k)
+    (λ (one : bit k (byteAt f j) ≡ 1).
+    let q = j * 8 + p % 8 in
+    let low : q % 8 ≡ p % 8 = omega arith in
+    let high : q / 8 ≡ j = omega arith in
+    let at : bitAt order f q ≡ 1 = rw (low, high) one in
+    omega (arith, b .inside q at, b .inside p (b .flip), ne))) in
+    odd t f d k (ordered (p % 8) (omega arith)) (ap (λ (x : ℕ). x % 2) s)
+
+pub first-hit : (t f : List ℕ) → Damage t f → Hit f 0 → Refuses (damaged t f)
+first-hit t f d w = refuses (damaged t f) (λ h. omega (arith, exact t f d .0 h .first))
+
+pub second-hit : (t f : List ℕ) → Damage t f → Hit f 1 → Refuses (damaged t f)
+second-hit t f d w = refuses (damaged t f) (λ h. omega (arith, exact t f d .0 h .second))
+
+-- ---- the length byte of the dryer hall
+
+pub long-promise : (t : List ℕ) → length t ≡ 16 → byteAt t 0 ≡ 2 → byteAt t 1 ≡ 254 → frameOf t ≡ Broken Count
+unfolding frameOf
+long-promise t n s l =
+    simp
+    (le-ltb (length t) 5 (omega arith), eq-eqb _ _ s, le-ltb (byteAt t 1) 3 (omega arith), le-ltb 254 (byteAt t 1) (omega arith), ne-eqb (length t) (byteAt t 1 + 2) (λ e. omega arith))

@@ -1,0 +1,2 @@
+-- Damage to a telegram, in the words of the third demand.
+pub mod Damage

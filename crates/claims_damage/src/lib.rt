@@ -1,0 +1,1 @@
+// Which damage the frame check sees, as theorems about its definition. This crate has no code of its own.

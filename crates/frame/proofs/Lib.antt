@@ -1,0 +1,3 @@
+-- The laws of the definitions that the functions' proofs and the crates above cite.
+pub mod XorLaws
+pub mod FrameLaws

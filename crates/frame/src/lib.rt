@@ -1,0 +1,164 @@
+// The frame of a telegram (document 01, Frame and answer numbers 10 to 15): the check character BCC, the frame check,
+// the address byte, and the decoded telegram.
+ghost use mathlib.Core.Path.{_≡_};
+ghost use Rattle.frame.specs.Bcc.{xorAll};
+ghost use Rattle.frame.specs.Frame.{frameOf, frameNumber};
+ghost use Rattle.frame.specs.Address.{addressOf, kindOf, decodedOf, faultNumber};
+
+// Why the frame check refuses, one case for each of the answer numbers 10 to 14.
+pub enum FrameFault {
+    Short,
+    Start,
+    Length,
+    Count,
+    Check,
+}
+
+// What the frame check finds: a sound frame whose net bytes end before net_end, or a fault.
+pub enum FrameCheck {
+    Sound { net_end: usize },
+    Broken(FrameFault),
+}
+
+// What the address byte says: one node, one node's mirror, all nodes, or nobody (15).
+pub enum Address {
+    ToOne(u8),
+    ToMirror(u8),
+    ToAll,
+    ToNone,
+}
+
+// Why no telegram could be read: a fault of the frame check, or of the address byte (15).
+pub enum Fault {
+    InFrame(FrameFault),
+    InAddress,
+}
+
+// Received bytes as a telegram: one of the three kinds, or a refusal.
+pub enum Decoded {
+    Normal {
+        node: u8,
+        net_start: usize,
+        net_end: usize,
+    },
+    Mirror {
+        node: u8,
+    },
+    Broadcast,
+    Refused(Fault),
+}
+
+// The XOR of all bytes.
+pub fn bcc(bytes: &[u8]) -> u8
+    ensures { λ r. ⌜ r ≡ xorAll (now (bytes .entry)) ⌝ }
+{
+    let mut sum: u8 = 0;
+    let mut i = 0;
+    while i < bytes.len() {
+        sum = sum ^ bytes[i];
+        i += 1;
+    }
+    sum
+}
+
+// The frame check: 10 to 14, in the document's order. LGE is used only after the byte count is found to agree with it,
+// and each byte is read once: the first two are known when the XOR is taken.
+pub fn check(received: &[u8]) -> FrameCheck
+    ensures { λ r. ⌜ r ≡ frameOf (now (received .entry)) ⌝ }
+{
+    let n = received.len();
+    if n < 5 {
+        return FrameCheck::Broken(FrameFault::Short);
+    }
+    if received[0] != 2 {
+        return FrameCheck::Broken(FrameFault::Start);
+    }
+    let second = received[1];
+    let lge = second as usize;
+    if lge < 3 {
+        return FrameCheck::Broken(FrameFault::Length);
+    }
+    if 254 < lge {
+        return FrameCheck::Broken(FrameFault::Length);
+    }
+    if n != lge + 2 {
+        return FrameCheck::Broken(FrameFault::Count);
+    }
+    let last = lge + 1;
+    let rest = bcc(&received[2..last]);
+    if received[last] != 2 ^ (second ^ rest) {
+        return FrameCheck::Broken(FrameFault::Check);
+    }
+    FrameCheck::Sound { net_end: last }
+}
+
+// The address byte by its bits: 0 to 4 node, 5 broadcast, 6 mirror, 7 must be 0; 5 and 6 together are refused.
+pub fn read_address(adr: u8) -> Address
+    ensures { λ r. ⌜ r ≡ addressOf adr ⌝ }
+{
+    let node = adr % 32;
+    let to_all = adr / 32 % 2;
+    let to_mirror = adr / 64 % 2;
+    if 128 <= adr {
+        return Address::ToNone;
+    }
+    if to_all == 1 {
+        if to_mirror == 1 {
+            return Address::ToNone;
+        }
+        return Address::ToAll;
+    }
+    if to_mirror == 1 {
+        return Address::ToMirror(node);
+    }
+    Address::ToOne(node)
+}
+
+// What an address makes of a sound telegram whose net bytes end before net_end.
+fn kind(address: Address, net_end: usize) -> Decoded
+    ensures { λ r. ⌜ r ≡ kindOf address «net_end» ⌝ }
+{
+    match address {
+        Address::ToNone => Decoded::Refused(Fault::InAddress),
+        Address::ToAll => Decoded::Broadcast,
+        Address::ToMirror(node) => Decoded::Mirror { node },
+        Address::ToOne(node) => Decoded::Normal {
+            node,
+            net_start: 3,
+            net_end,
+        },
+    }
+}
+
+// The received bytes as a telegram: 10 to 15, then its kind.
+pub fn decode(received: &[u8]) -> Decoded
+    ensures { λ r. ⌜ r ≡ decodedOf (now (received .entry)) ⌝ }
+{
+    match check(received) {
+        FrameCheck::Broken(fault) => Decoded::Refused(Fault::InFrame(fault)),
+        FrameCheck::Sound { net_end } => kind(read_address(received[2]), net_end),
+    }
+}
+
+// The document's number of a fault of the frame check.
+pub fn number_frame_fault(fault: FrameFault) -> u8
+    ensures { λ r. ⌜ r ≡ frameNumber fault ⌝ }
+{
+    match fault {
+        FrameFault::Short => 10,
+        FrameFault::Start => 11,
+        FrameFault::Length => 12,
+        FrameFault::Count => 13,
+        FrameFault::Check => 14,
+    }
+}
+
+// The document's number of a fault.
+pub fn number_fault(fault: Fault) -> u8
+    ensures { λ r. ⌜ r ≡ faultNumber fault ⌝ }
+{
+    match fault {
+        Fault::InFrame(f) => number_frame_fault(f),
+        Fault::InAddress => 15,
+    }
+}
