@@ -1,2 +1,3 @@
--- Laws of bytes and words.
+-- Laws of bytes and words, and of stores into a list.
 pub mod WordsLaws
+pub mod StoreLaws

@@ -1,0 +1,71 @@
+-- Laws of net bytes, and of the words that are written one after another. Assumes nothing.
+use mathlib.Core.Path.{_≡_, refl, sym, ap, _∙_}
+use mathlib.Core.List.{List, [], _∷_, _++_}
+use Prim.Native.Nat.{ℕ, zero, suc, _+_, _-_, _*_, _/_, _%_, _≤_, _<_}
+use native.Mathlib.Omega.{arith}
+use borrow.Author.Tests.{le-leb, le-ltb, ne-eqb}
+use lib.ListN.{length, take, drop, set, length-append}
+use lib.Seq.{sets, length-sets, length-take-le, take-all}
+use Rattle.words.specs.declared.Words.{Words}
+use Rattle.words.proofs.StoreLaws.{sets-append, sets-there, sets-beyond}
+use Rattle.build.specs.declared.Area.{Area}
+use Rattle.build.specs.Telegram.{telegramOf, sealedOf, sealedLength}
+use Rattle.build.specs.Net.{bytesOf, wordsOf, valueWords, areaWords, netOf, normalOf, normalLength}
+
+pub bytes-append : (ws vs : List ℕ) → bytesOf (ws ++ vs) ≡ bytesOf ws ++ bytesOf vs
+bytes-append [] vs = refl
+bytes-append (w ∷ ws) vs = ap (λ (l : List ℕ). w / 256 ∷ w % 256 ∷ l) (bytes-append ws vs)
+
+pub length-bytes : (ws : List ℕ) → length (bytesOf ws) ≡ length ws * 2
+length-bytes [] = refl
+length-bytes (w ∷ ws) = omega (arith, length-bytes ws)
+
+pub length-value : (n v : ℕ) → length (valueWords n v) ≡ n
+length-value zero v = refl
+length-value (suc n) v = length-append (valueWords n (v / 65536)) (v % 65536 ∷ []) ∙ omega (arith, length-value n (v / 65536))
+
+pub length-area : (n : ℕ) (a : Area) → length (areaWords n a) ≡ n
+unfolding areaWords
+length-area n a = length-take-le n (a .pke ∷ a .ind ∷ valueWords (n - 2) (a .value)) (omega (arith, length-value (n - 2) (a .value)))
+
+-- words written after words
+pub put-more : (l : List ℕ) (at : ℕ) (ws vs : List ℕ) {out out′ : List ℕ} → out ≡ sets l at (bytesOf ws) → out′ ≡ sets out (at + length ws * 2) (bytesOf vs) → out′ ≡ sets l at (bytesOf (ws ++ vs))
+put-more l at ws vs e f = f ∙ rw (e, bytes-append ws vs, sets-append l at (bytesOf ws) (bytesOf vs), length-bytes ws)
+
+-- an area of two words and more is PKE, IND and the value
+pub area-all : (n : ℕ) (a : Area) → 2 ≤ n → areaWords n a ≡ a .pke ∷ a .ind ∷ valueWords (n - 2) (a .value)
+unfolding areaWords
+area-all n a h = take-all n (a .pke ∷ a .ind ∷ valueWords (n - 2) (a .value)) (omega (arith, length-value (n - 2) (a .value)))
+
+module _ (a : Area) (n : ℕ) (w : Words) (pzd : ℕ) (few : pzd ≤ 4) where
+  pub length-net : length (netOf a n w pzd) ≡ n * 2 + pzd * 2
+  unfolding netOf
+  length-net =
+      length-bytes (areaWords n a ++ take pzd (wordsOf w))
+      ∙ omega (arith, length-append (areaWords n a) (take pzd (wordsOf w)), length-area n a, length-take-le pzd (wordsOf w) few)
+
+  -- the buffer after both areas were written, made a telegram
+  pub areas-sealed : (out : List ℕ) (adr : ℕ) {out₁ out₂ : List ℕ} → 256 ≤ length out → 1 ≤ n + pzd → n ≤ 4
+      → out₁ ≡ sets out 3 (bytesOf (areaWords n a)) → out₂ ≡ sets out₁ (n * 2 + 3) (bytesOf (take pzd (wordsOf w)))
+      → (sealedLength out₂ (n * 2 + pzd * 2) ≡ length (netOf a n w pzd) + 4)
+      × (sealedOf out₂ adr (n * 2 + pzd * 2) ≡ telegramOf adr (netOf a n w pzd) ++ drop (length (netOf a n w pzd) + 4) out)
+  unfolding sealedOf sealedLength netOf
+  areas-sealed out adr {out₁} {out₂} room some short e f =
+      let net = netOf a n w pzd in
+      let place : n * 2 + 3 ≡ 3 + length (areaWords n a) * 2 = omega (arith, length-area n a) in
+      let written : out₂ ≡ sets out 3 net = put-more out 3 (areaWords n a) (take pzd (wordsOf w)) e (rw place at f) in
+      let long : length out₂ ≡ length out = ap length written ∙ length-sets out 3 net in
+      let there : take (length net) (drop 3 out₂) ≡ net = rw written (sets-there out 3 net (omega (arith, length-net))) in
+      let beyond : drop (length net + 4) out₂ ≡ drop (length net + 4) out = rw written (sets-beyond out 3 net (length net + 4) (omega arith)) in
+      let wide = le-leb 256 (length out₂) (omega arith) in
+      let least = le-leb 1 (length net) (omega (arith, length-net)) in
+      let most = le-leb (length net) 252 (omega (arith, length-net)) in
+      rw (← length-net) (rw (wide, least, most) (refl, rw (there, beyond)))
+
+  -- where the telegram can be sent, it is
+  pub normal-sent : (out : List ℕ) (adr : ℕ) → 256 ≤ length out → 1 ≤ n + pzd → n ≤ 4
+      → (normalLength out a n w pzd ≡ length (netOf a n w pzd) + 4)
+      × (normalOf out adr a n w pzd ≡ telegramOf adr (netOf a n w pzd) ++ drop (length (netOf a n w pzd) + 4) out)
+  unfolding normalOf normalLength
+  normal-sent out adr room some short =
+      rw (le-ltb 4 n short, le-ltb 4 pzd few, ne-eqb (n + pzd) 0 (λ e. omega arith), le-ltb (length out) 256 room) (refl, refl)

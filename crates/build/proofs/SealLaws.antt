@@ -1,0 +1,78 @@
+-- A telegram that is built passes the frame check, and its net bytes are those that went in. Assumes nothing.
+use mathlib.Core.Path.{_≡_, refl, sym, ap, _∙_}
+use mathlib.Core.List.{List, [], _∷_, _++_, append-assoc}
+use Prim.Native.Nat.{ℕ, suc, _+_, _-_, _≤_, _<_}
+use native.Mathlib.Numerals.{add-three}
+use native.Mathlib.Omega.{arith}
+use lib.ListN.{length, getD, take, drop, set, length-append, length-drop}
+use lib.Seq.{getD-at, take-at, set-split, sets-eq, drop-drop, length-take-le}
+use Rattle.frame.specs.Bcc.{xorAll}
+use Rattle.frame.specs.Frame.{frameOf, lastOf}
+use Rattle.frame.specs.declared.FrameCheck.the-variants.{Sound}
+use Rattle.frame.proofs.FrameLaws.{Counted, Framed, sound}
+use Rattle.build.specs.Telegram.{bodyOf, telegramOf}
+
+module _ (adr : ℕ) (net : List ℕ) (some : 1 ≤ length net) (fits : length net ≤ 252) where
+  long : length (telegramOf adr net) ≡ length net + 4
+  long = omega (arith, length-append (bodyOf adr net) (xorAll (bodyOf adr net) ∷ []))
+
+  last : length (bodyOf adr net) ≡ lastOf (telegramOf adr net)
+  last = omega (arith, long)
+
+  body : take (lastOf (telegramOf adr net)) (telegramOf adr net) ≡ bodyOf adr net
+  body = take-at (bodyOf adr net) (xorAll (bodyOf adr net) ∷ []) (lastOf (telegramOf adr net)) last
+
+  pub passes : frameOf (telegramOf adr net) ≡ Sound (length net + 3)
+  passes =
+      sound (telegramOf adr net)
+      (record {
+        counted = record {
+          long = omega (arith, long);
+          start = refl;
+          low = omega arith;
+          high = omega arith;
+          count = omega (arith, long);
+        };
+        check = getD-at (bodyOf adr net) (xorAll (bodyOf adr net)) [] 0 (lastOf (telegramOf adr net)) last ∙ ap xorAll (sym body);
+      })
+      ∙ ap Sound (omega (arith, long))
+
+  pub net-back : drop 3 (take (lastOf (telegramOf adr net)) (telegramOf adr net)) ≡ net
+  net-back = ap (λ (l : List ℕ). drop 3 l) body
+
+-- ---- the telegram as it is written into a buffer
+
+-- stores at rising places are a run of stores
+three-set : (out : List ℕ) (x y z : ℕ) → 3 ≤ length out → set (set (set out 0 x) 1 y) 2 z ≡ x ∷ y ∷ z ∷ drop 3 out
+three-set out x y z h = sets-eq (x ∷ y ∷ z ∷ []) out 0 h
+
+module _ (out : List ℕ) (adr n : ℕ) (room : 256 ≤ length out) (fits : n ≤ 252) where
+  abbrev headed : List ℕ → List ℕ
+  headed l = 2 ∷ (n + 2) ∷ adr ∷ l
+
+  abbrev pub started : List ℕ
+  started = set (set (set out 0 2) 1 (n + 2)) 2 adr
+
+  started-is : started ≡ headed (drop 3 out)
+  started-is = three-set out 2 (n + 2) adr (omega arith)
+
+  body-is : bodyOf adr (take n (drop 3 out)) ≡ headed (take n (drop 3 out))
+  body-is =
+      ap (λ (k : ℕ). 2 ∷ (k + 2) ∷ adr ∷ take n (drop 3 out)) (length-take-le n (drop 3 out) (simp length-drop (omega arith)))
+
+  taken-is : take (n + 3) started ≡ bodyOf adr (take n (drop 3 out))
+  taken-is =
+      let e : take (n + 3) (headed (drop 3 out)) ≡ headed (take n (drop 3 out)) = rw add-three in
+      ap (λ (l : List ℕ). take (n + 3) l) started-is ∙ e ∙ sym body-is
+
+  pub written : set started (n + 3) (xorAll (take (n + 3) started)) ≡ telegramOf adr (take n (drop 3 out)) ++ drop (n + 4) out
+  written =
+      let s = xorAll (bodyOf adr (take n (drop 3 out))) in
+      let e : set (headed (drop 3 out)) (n + 3) s ≡ headed (take n (drop 3 out)) ++ s ∷ drop (suc n) (drop 3 out) =
+      rw add-three (ap headed (set-split (drop 3 out) n s (simp length-drop (omega arith)))) in
+      let place : 3 + suc n ≡ n + 4 = omega arith in
+      let rest : drop (suc n) (drop 3 out) ≡ drop (n + 4) out = drop-drop (suc n) 3 out ∙ ap (λ (k : ℕ). drop k out) place in
+      ap (λ (l : List ℕ). set started (n + 3) (xorAll l)) taken-is ∙ ap (λ (l : List ℕ). set l (n + 3) s) started-is ∙ e
+      ∙ ap (λ (l : List ℕ). headed (take n (drop 3 out)) ++ s ∷ l) rest
+      ∙ ap (λ (l : List ℕ). l ++ s ∷ drop (n + 4) out) (sym body-is)
+      ∙ sym (append-assoc (bodyOf adr (take n (drop 3 out))) (s ∷ []) (drop (n + 4) out))

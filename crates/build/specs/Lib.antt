@@ -1,0 +1,3 @@
+-- Telegrams as lists of bytes.
+pub mod Telegram
+pub mod Net

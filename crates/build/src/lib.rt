@@ -1,0 +1,128 @@
+// Telegrams written into a lent buffer: the words of a parameter area and of a process area, and the frame around net bytes
+// (document 01, Frame and Parameter area). Slave replies and master telegrams are written here alike.
+ghost use mathlib.Core.Path.{_≡_};
+ghost use mathlib.Core.List.{[], _∷_};
+ghost use Prim.Native.Nat.{_+_, _*_, _≤_};
+ghost use lib.ListN.{length, take};
+ghost use lib.Seq.{sets};
+ghost use Rattle.build.specs.Telegram.{sealedOf, sealedLength};
+ghost use Rattle.build.specs.Net.{bytesOf, wordsOf, valueWords, areaWords, normalOf, normalLength};
+use words::Words;
+
+// The words of a parameter area: PKE, IND, and the value over the words that are left.
+pub struct Area {
+    pub pke: u16,
+    pub ind: u16,
+    pub value: u32,
+}
+
+// A word at a place, high byte first; what would stand past the buffer's end is not written.
+fn put_word(out: &mut [u8], at: usize, w: u16)
+    ensures { λ _. ⌜ now (out .exit) ≡ sets (now (out .entry)) at (bytesOf (w ∷ [])) ⌝ }
+{
+    let n = out.len();
+    if at < n {
+        out[at] = (w / 256) as u8;
+        if at + 1 < n {
+            out[at + 1] = (w % 256) as u8;
+        }
+    }
+}
+
+// The first `count` of four words, at a place.
+fn put_words(out: &mut [u8], at: usize, w: Words, count: u8)
+    requires { ⌜ (at ≤ 1000) × (count ≤ 4) ⌝ }
+    ensures { λ _. ⌜ now (out .exit) ≡ sets (now (out .entry)) at (bytesOf (take count (wordsOf w))) ⌝ }
+{
+    if count == 0 {
+        return;
+    }
+    put_word(out, at, w.w1);
+    if count == 1 {
+        return;
+    }
+    put_word(out, at + 2, w.w2);
+    if count == 2 {
+        return;
+    }
+    put_word(out, at + 4, w.w3);
+    if count == 3 {
+        return;
+    }
+    put_word(out, at + 6, w.w4);
+}
+
+// A value over `count` words, high word first, at a place.
+fn put_value(out: &mut [u8], at: usize, value: u32, count: u8)
+    requires { ⌜ (at ≤ 1000) × (count ≤ 2) ⌝ }
+    ensures { λ _. ⌜ now (out .exit) ≡ sets (now (out .entry)) at (bytesOf (valueWords count value)) ⌝ }
+{
+    if count == 0 {
+        return;
+    }
+    if count == 1 {
+        put_word(out, at, (value % 65536) as u16);
+        return;
+    }
+    put_word(out, at, (value / 65536) as u16);
+    put_word(out, at + 2, (value % 65536) as u16);
+}
+
+// A parameter area of n words, at the place of the first net byte.
+fn put_area(out: &mut [u8], area: Area, n: u8)
+    requires { ⌜ n ≤ 4 ⌝ }
+    ensures { λ _. ⌜ now (out .exit) ≡ sets (now (out .entry)) 3 (bytesOf (areaWords n area)) ⌝ }
+{
+    if n == 0 {
+        return;
+    }
+    put_word(out, 3, area.pke);
+    if n == 1 {
+        return;
+    }
+    put_word(out, 5, area.ind);
+    put_value(out, 7, area.value, n - 2);
+}
+
+// The n net bytes at place 3 and on become a telegram: its length, or 0 with the buffer unchanged.
+pub fn seal(out: &mut [u8], adr: u8, n: usize) -> usize
+    ensures { λ r. ⌜ (r ≡ sealedLength (now (out .entry)) n) × (now (out .exit) ≡ sealedOf (now (out .entry)) adr n) ⌝ }
+{
+    if 256 <= out.len() {
+        if 1 <= n {
+            if n <= 252 {
+                out[0] = 2;
+                out[1] = (n + 2) as u8;
+                out[2] = adr;
+                let last = n + 3;
+                let sum = frame::bcc(&out[..last]);
+                out[last] = sum;
+                return last + 1;
+            }
+        }
+    }
+    0
+}
+
+// The telegram with a parameter area of n words and the first pzd of four process words: its length, or 0 with the buffer
+// unchanged where n or pzd is over 4, both are 0, or the buffer has under 256 bytes.
+pub fn write_normal(out: &mut [u8], adr: u8, area: Area, n: u8, process: Words, pzd: u8) -> usize
+    ensures { λ r. ⌜ (r ≡ normalLength (now (out .entry)) area n process pzd) × (now (out .exit) ≡ normalOf (now (out .entry)) adr area n process pzd) ⌝ }
+{
+    if 4 < n {
+        return 0;
+    }
+    if 4 < pzd {
+        return 0;
+    }
+    if n + pzd == 0 {
+        return 0;
+    }
+    if out.len() < 256 {
+        return 0;
+    }
+    put_area(out, area, n);
+    let count = (n as usize) * 2;
+    put_words(out, count + 3, process, pzd);
+    seal(out, adr, count + (pzd as usize) * 2)
+}
