@@ -1,0 +1,4 @@
+-- Laws of pages, tasks and errors.
+pub mod PageLaws
+pub mod TaskLaws
+pub mod VerdictLaws

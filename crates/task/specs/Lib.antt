@@ -1,0 +1,4 @@
+-- Tasks, pages and errors, as document 01 has them.
+pub mod Task
+pub mod Page
+pub mod Verdict

@@ -1,0 +1,279 @@
+// Tasks (document 01, Parameter area): what a task ID asks, the page nibble and the full number, and the errors of a task
+// on a parameter, in the document's order.
+ghost use mathlib.Core.Path.{_≡_};
+ghost use Rattle.task.specs.Task.{taskOf};
+ghost use Rattle.task.specs.Page.{pageOf, nibbleOf, numberOf};
+ghost use Rattle.task.specs.Verdict.{refusesAct, changesAct, countsAct, otherWidth, noArray, noElement, noRoom, verdictOf, errorNumber, elementOf};
+ghost use mathlib.Core.Bool.{_&&_};
+
+// What is to be done. Refuse is for the task IDs that error 106 answers.
+pub enum Act {
+    Nothing,
+    Read,
+    Change,
+    Count,
+    Refuse,
+}
+
+// The width of the value that the task carries.
+pub enum Width {
+    Either,
+    Word,
+    Double,
+}
+
+// What a task ID asks: the act, the width, whether the index names an element, and the reply ID. A read of a double replies
+// with the next ID.
+pub struct Task {
+    pub act: Act,
+    pub width: Width,
+    pub array: bool,
+    pub reply: u8,
+}
+
+// Why a task on a parameter fails, one case for each error number.
+pub enum ParameterError {
+    NoParameter,
+    NotWritable,
+    OutsideLimits,
+    NoElement,
+    NoArray,
+    OtherWidth,
+    NoRoom,
+    NoTask,
+}
+
+pub enum Verdict {
+    Granted,
+    Denied(ParameterError),
+}
+
+// The sixteen pages by their nibble: bit 15 of IND is 1, bit 14 is 8, bit 13 is 4, bit 12 is 2.
+const PAGES: [u8; 16] = [0, 2, 4, 6, 8, 10, 12, 14, 1, 3, 5, 7, 9, 11, 13, 15];
+
+// The sixteen nibbles by their page.
+const NIBBLES: [u8; 16] = [0, 8, 1, 9, 2, 10, 3, 11, 4, 12, 5, 13, 6, 14, 7, 15];
+
+// What the task ID asks; IDs over 15 do not occur and are refused like 15.
+pub fn task_of(id: u8) -> Task
+    ensures { λ r. ⌜ r ≡ taskOf id ⌝ }
+{
+    match id {
+        0..=0 => Task {
+            act: Act::Nothing,
+            width: Width::Either,
+            array: false,
+            reply: 0,
+        },
+        1..=1 => Task {
+            act: Act::Read,
+            width: Width::Either,
+            array: false,
+            reply: 1,
+        },
+        2..=3 => Task {
+            act: Act::Change,
+            width: if id == 2 { Width::Word } else { Width::Double },
+            array: false,
+            reply: id - 1,
+        },
+        6..=6 => Task {
+            act: Act::Read,
+            width: Width::Either,
+            array: true,
+            reply: 4,
+        },
+        7..=8 => Task {
+            act: Act::Change,
+            width: if id == 7 { Width::Word } else { Width::Double },
+            array: true,
+            reply: id - 3,
+        },
+        9..=9 => Task {
+            act: Act::Count,
+            width: Width::Either,
+            array: false,
+            reply: 6,
+        },
+        11..=12 => Task {
+            act: Act::Change,
+            width: if id == 12 { Width::Word } else { Width::Double },
+            array: true,
+            reply: 16 - id,
+        },
+        13..=14 => Task {
+            act: Act::Change,
+            width: if id == 14 { Width::Word } else { Width::Double },
+            array: false,
+            reply: 15 - id,
+        },
+        _ => Task {
+            act: Act::Refuse,
+            width: Width::Either,
+            array: false,
+            reply: 7,
+        },
+    }
+}
+
+// The page of an IND word, by its upper four bits.
+pub fn page_of(ind: u16) -> u8
+    ensures { λ r. ⌜ r ≡ pageOf ind ⌝ }
+{
+    let nibble = (ind / 4096) as usize;
+    PAGES[nibble]
+}
+
+// The upper four bits of the IND word of a number: those of its page, number / 2000; 0 past page 15.
+pub fn nibble_of(number: u16) -> u8
+    ensures { λ r. ⌜ r ≡ nibbleOf number ⌝ }
+{
+    let page = (number / 2000) as usize;
+    if page < 16 { NIBBLES[page] } else { 0 }
+}
+
+// The full number of PKE and IND: 2000 times the page, and the base.
+pub fn number_of(pke: u16, ind: u16) -> u16
+    ensures { λ r. ⌜ r ≡ numberOf pke ind ⌝ }
+{
+    let page = page_of(ind);
+    (page as u16) * 2000 + pke % 2048
+}
+
+// The document's number of an error.
+pub fn number_error(error: ParameterError) -> u8
+    ensures { λ r. ⌜ r ≡ errorNumber error ⌝ }
+{
+    match error {
+        ParameterError::NoParameter => 0,
+        ParameterError::NotWritable => 1,
+        ParameterError::OutsideLimits => 2,
+        ParameterError::NoElement => 3,
+        ParameterError::NoArray => 4,
+        ParameterError::OtherWidth => 5,
+        ParameterError::NoRoom => 102,
+        ParameterError::NoTask => 106,
+    }
+}
+
+fn refuses(act: Act) -> bool
+    ensures { λ r. ⌜ r ≡ refusesAct act ⌝ }
+{
+    match act {
+        Act::Nothing => false,
+        Act::Read => false,
+        Act::Change => false,
+        Act::Count => false,
+        Act::Refuse => true,
+    }
+}
+
+fn changes(act: Act) -> bool
+    ensures { λ r. ⌜ r ≡ changesAct act ⌝ }
+{
+    match act {
+        Act::Nothing => false,
+        Act::Read => false,
+        Act::Change => true,
+        Act::Count => false,
+        Act::Refuse => false,
+    }
+}
+
+fn counts(act: Act) -> bool
+    ensures { λ r. ⌜ r ≡ countsAct act ⌝ }
+{
+    match act {
+        Act::Nothing => false,
+        Act::Read => false,
+        Act::Change => false,
+        Act::Count => true,
+        Act::Refuse => false,
+    }
+}
+
+// A word task on a double parameter, or the reverse.
+fn differs(width: Width, double: bool) -> bool
+    ensures { λ r. ⌜ r ≡ otherWidth width double ⌝ }
+{
+    match width {
+        Width::Either => false,
+        Width::Word => double,
+        Width::Double => !double,
+    }
+}
+
+fn lacks_array(array: bool, elements: u8, index: u8) -> bool
+    ensures { λ r. ⌜ r ≡ noArray array elements index ⌝ }
+{
+    array && (elements == 0 && 1 < index)
+}
+
+fn lacks_element(array: bool, elements: u8, index: u8) -> bool
+    ensures { λ r. ⌜ r ≡ noElement array elements index ⌝ }
+{
+    array && (elements != 0 && elements <= index)
+}
+
+fn lacks_room(double: bool, n: u8, count: bool) -> bool
+    ensures { λ r. ⌜ r ≡ noRoom double n count ⌝ }
+{
+    double && (n == 3 && !count)
+}
+
+fn both(a: bool, b: bool) -> bool
+    ensures { λ r. ⌜ r ≡ (a && b) ⌝ }
+{
+    a && b
+}
+
+// The first error that applies to a task on a parameter that exists, in the document's order.
+pub fn judge(
+    act: Act,
+    width: Width,
+    array: bool,
+    elements: u8,
+    double: bool,
+    writable: bool,
+    inside: bool,
+    index: u8,
+    n: u8,
+) -> Verdict
+    ensures { λ r. ⌜ r ≡ verdictOf act width array elements double writable inside index n ⌝ }
+{
+    if refuses(act) {
+        return Verdict::Denied(ParameterError::NoTask);
+    }
+    if lacks_array(array, elements, index) {
+        return Verdict::Denied(ParameterError::NoArray);
+    }
+    if lacks_element(array, elements, index) {
+        return Verdict::Denied(ParameterError::NoElement);
+    }
+    let change = changes(act);
+    if both(change, differs(width, double)) {
+        return Verdict::Denied(ParameterError::OtherWidth);
+    }
+    if lacks_room(double, n, counts(act)) {
+        return Verdict::Denied(ParameterError::NoRoom);
+    }
+    if both(change, !writable) {
+        return Verdict::Denied(ParameterError::NotWritable);
+    }
+    if both(change, !inside) {
+        return Verdict::Denied(ParameterError::OutsideLimits);
+    }
+    Verdict::Granted
+}
+
+// The element that a task means: that of its index where the index names one of an array, else the first (ours).
+pub fn pick_element(array: bool, elements: u8, index: u8) -> u8
+    ensures { λ r. ⌜ r ≡ elementOf array elements index ⌝ }
+{
+    if array {
+        if elements != 0 {
+            return index;
+        }
+    }
+    0
+}
