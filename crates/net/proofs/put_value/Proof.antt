@@ -1,16 +1,16 @@
--- `build::put_value` meets its contract. Assumes nothing.
+-- `net::put_value` meets its contract. Assumes nothing.
 use mathlib.Core.Path.{_≡_, refl, sym, ap, _∙_}
 use mathlib.Core.List.{[], _∷_}
 use native.Mathlib.Omega.{arith}
 use lib.Seq.{sets, set-out}
 use Prim.Native.Nat.{_/_, _%_}
-use Rattle.build.proofs.NetLaws.{put-more}
+use Rattle.net.proofs.NetLaws.{put-more}
 use borrow.Author.Needs.{needs}
-use Rattle.build.proofs.put_value.Statement.{statement}
-use Rattle.build.proofs.put_value.Tie as tie
-use Rattle.build.proofs.put_value.Reads as reads
-use Rattle.build.proofs.put_value.Lts as lts
-use Rattle.build.proofs.put_word.Reads as put-word-reads
+use Rattle.net.proofs.put_value.Statement.{statement}
+use Rattle.net.proofs.put_value.Tie as tie
+use Rattle.net.proofs.put_value.Reads as reads
+use Rattle.net.proofs.put_value.Lts as lts
+use Rattle.net.proofs.put_word.Reads as put-word-reads
 
 -- src/lib.rt:60:9
 returns : tie.Need-returns

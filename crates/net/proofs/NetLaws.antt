@@ -8,9 +8,9 @@ use lib.ListN.{length, take, drop, set, length-append}
 use lib.Seq.{sets, length-sets, length-take-le, take-all}
 use Rattle.words.specs.declared.Words.{Words}
 use Rattle.words.proofs.StoreLaws.{sets-append, sets-there, sets-beyond}
-use Rattle.build.specs.declared.Area.{Area}
-use Rattle.build.specs.Telegram.{telegramOf, sealedOf, sealedLength}
-use Rattle.build.specs.Net.{bytesOf, wordsOf, valueWords, areaWords, netOf, normalOf, normalLength}
+use Rattle.net.specs.declared.Area.{Area}
+use Rattle.net.specs.Telegram.{telegramOf, sealedOf, sealedLength}
+use Rattle.net.specs.Net.{bytesOf, wordsOf, valueWords, areaWords, netOf, normalOf, normalLength}
 
 pub bytes-append : (ws vs : List ℕ) → bytesOf (ws ++ vs) ≡ bytesOf ws ++ bytesOf vs
 bytes-append [] vs = refl

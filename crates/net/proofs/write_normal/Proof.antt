@@ -1,19 +1,19 @@
--- `build::write_normal` meets its contract: the areas are written one after the other, and the telegram is sealed. Assumes nothing.
+-- `net::write_normal` meets its contract: the areas are written one after the other, and the telegram is sealed. Assumes nothing.
 use native.Mathlib.Omega.{arith}
 use Prim.Native.Nat.{_+_, _≤_}
 use lib.ListN.{length}
 use mathlib.Core.Path.{_≡_, _∙_, sym}
 use Rattle.rows.proofs.RowsLaws.{tests}
-use Rattle.build.specs.Net.{normalOf, normalLength}
-use Rattle.build.proofs.NetLaws.{areas-sealed, normal-sent}
+use Rattle.net.specs.Net.{normalOf, normalLength}
+use Rattle.net.proofs.NetLaws.{areas-sealed, normal-sent}
 use borrow.Author.Needs.{needs}
-use Rattle.build.proofs.write_normal.Statement.{statement}
-use Rattle.build.proofs.write_normal.Tie as tie
-use Rattle.build.proofs.write_normal.Reads as reads
-use Rattle.build.proofs.write_normal.Lts as lts
-use Rattle.build.proofs.put_area.Reads as put-area-reads
-use Rattle.build.proofs.put_words.Reads as put-words-reads
-use Rattle.build.proofs.seal.Reads as seal-reads
+use Rattle.net.proofs.write_normal.Statement.{statement}
+use Rattle.net.proofs.write_normal.Tie as tie
+use Rattle.net.proofs.write_normal.Reads as reads
+use Rattle.net.proofs.write_normal.Lts as lts
+use Rattle.net.proofs.put_area.Reads as put-area-reads
+use Rattle.net.proofs.put_words.Reads as put-words-reads
+use Rattle.net.proofs.seal.Reads as seal-reads
 
 -- src/lib.rt:112:9
 returns : tie.Need-returns

@@ -1,4 +1,4 @@
--- `build::seal` meets its contract: the three stores, the check byte, and what they make of the buffer. Assumes nothing.
+-- `net::seal` meets its contract: the three stores, the check byte, and what they make of the buffer. Assumes nothing.
 use borrow.Author.Needs.{needs}
 use borrow.Author.Tests.{le-leb}
 use native.Mathlib.Omega.{arith}
@@ -6,12 +6,12 @@ use lib.ListN.{length-set}
 use lib.Seq.{length-take-le}
 use mathlib.Core.Path.{sym}
 use Rattle.rows.proofs.RowsLaws.{tests}
-use Rattle.build.specs.Telegram.{sealedOf, sealedLength}
-use Rattle.build.proofs.SealLaws.{written}
-use Rattle.build.proofs.seal.Statement.{statement}
-use Rattle.build.proofs.seal.Tie as tie
-use Rattle.build.proofs.seal.Reads as reads
-use Rattle.build.proofs.seal.Lts as lts
+use Rattle.net.specs.Telegram.{sealedOf, sealedLength}
+use Rattle.net.proofs.SealLaws.{written}
+use Rattle.net.proofs.seal.Statement.{statement}
+use Rattle.net.proofs.seal.Tie as tie
+use Rattle.net.proofs.seal.Reads as reads
+use Rattle.net.proofs.seal.Lts as lts
 use Rattle.frame.proofs.bcc.Reads as bcc-reads
 
 -- src/lib.rt:12:17

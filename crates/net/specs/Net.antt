@@ -13,8 +13,8 @@ use lib.Dec.{leb, ltb, eqb}
 use lib.ListN.{length, take, drop}
 use Rattle.rows.specs.Rows.{firstOf}
 use Rattle.words.specs.declared.Words.{Words}
-use Rattle.build.specs.Telegram.{telegramOf}
-use Rattle.build.specs.declared.Area.{Area}
+use Rattle.net.specs.Telegram.{telegramOf}
+use Rattle.net.specs.declared.Area.{Area}
 
 abbrev pub bytesOf : List ℕ → List ℕ
 bytesOf [] = []

@@ -1,12 +1,13 @@
-// Telegrams written into a lent buffer: the words of a parameter area and of a process area, and the frame around net bytes
-// (document 01, Frame and Parameter area). Slave replies and master telegrams are written here alike.
+// The net bytes of a telegram, read and written: the words of a parameter area and of a process area, and the frame around
+// them (document 01, Frame and Parameter area). Slave and master read and write here alike.
 ghost use mathlib.Core.Path.{_≡_};
 ghost use mathlib.Core.List.{[], _∷_};
 ghost use Prim.Native.Nat.{_+_, _*_, _≤_};
 ghost use lib.ListN.{length, take};
 ghost use lib.Seq.{sets};
-ghost use Rattle.build.specs.Telegram.{sealedOf, sealedLength};
-ghost use Rattle.build.specs.Net.{bytesOf, wordsOf, valueWords, areaWords, normalOf, normalLength};
+ghost use Rattle.net.specs.Telegram.{sealedOf, sealedLength};
+ghost use Rattle.net.specs.Net.{bytesOf, wordsOf, valueWords, areaWords, normalOf, normalLength};
+ghost use Rattle.net.specs.Read.{valueAt, areaAt, processAt, wordTaken};
 use words::Words;
 
 // The words of a parameter area: PKE, IND, and the value over the words that are left.
@@ -125,4 +126,49 @@ pub fn write_normal(out: &mut [u8], adr: u8, area: Area, n: u8, process: Words, 
     let count = (n as usize) * 2;
     put_words(out, count + 3, process, pzd);
     seal(out, adr, count + (pzd as usize) * 2)
+}
+
+// The value over `count` words from place 7 on, high word first.
+fn read_value(t: &[u8], count: u8) -> u32
+    ensures { λ r. ⌜ r ≡ valueAt (now (t .entry)) count ⌝ }
+{
+    let n = count as usize;
+    let mut value: u32 = 0;
+    let mut i = 0;
+    while i < n {
+        let low = words::word_at(t, i * 2 + 7);
+        value = words::join_double((value % 65536) as u16, low);
+        i += 1;
+    }
+    value
+}
+
+// The parameter area of n words at the place of the first net byte.
+pub fn read_area(t: &[u8], n: u8) -> Area
+    ensures { λ r. ⌜ r ≡ areaAt (now (t .entry)) n ⌝ }
+{
+    let pke = words::word_at(t, 3);
+    let ind = words::word_at(t, 5);
+    let count = if 2 <= n { n - 2 } else { 0 };
+    let value = read_value(t, count);
+    Area { pke, ind, value }
+}
+
+// The word at a place where it is taken, else the old one.
+fn take_word(t: &[u8], at: usize, taken: bool, old: u16) -> u16
+    ensures { λ r. ⌜ r ≡ wordTaken (now (t .entry)) at taken old ⌝ }
+{
+    if taken { words::word_at(t, at) } else { old }
+}
+
+// The first pzd of four words, which stand behind an area of n words; the rest are the old ones.
+pub fn read_process(t: &[u8], n: u8, pzd: u8, old: Words) -> Words
+    ensures { λ r. ⌜ r ≡ processAt (now (t .entry)) n pzd old ⌝ }
+{
+    let at = (n as usize) * 2 + 3;
+    let w1 = take_word(t, at, 0 < pzd, old.w1);
+    let w2 = take_word(t, at + 2, 1 < pzd, old.w2);
+    let w3 = take_word(t, at + 4, 2 < pzd, old.w3);
+    let w4 = take_word(t, at + 6, 3 < pzd, old.w4);
+    Words { w1, w2, w3, w4 }
 }

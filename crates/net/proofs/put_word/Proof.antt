@@ -1,4 +1,4 @@
--- `build::put_word` meets its contract. Assumes nothing.
+-- `net::put_word` meets its contract. Assumes nothing.
 use mathlib.Core.Path.{_≡_, refl, sym, ap, _∙_}
 use mathlib.Core.List.{[], _∷_}
 use native.Mathlib.Omega.{arith}
@@ -7,10 +7,10 @@ use Prim.Native.Nat.{_/_}
 use native.Mathlib.Numerals.{add-one}
 use lib.ListN.{set, length-set}
 use borrow.Author.Needs.{needs}
-use Rattle.build.proofs.put_word.Statement.{statement}
-use Rattle.build.proofs.put_word.Tie as tie
-use Rattle.build.proofs.put_word.Reads as reads
-use Rattle.build.proofs.put_word.Lts as lts
+use Rattle.net.proofs.put_word.Statement.{statement}
+use Rattle.net.proofs.put_word.Tie as tie
+use Rattle.net.proofs.put_word.Reads as reads
+use Rattle.net.proofs.put_word.Lts as lts
 
 -- src/lib.rt:24:19
 cast-out : tie.Need-cast-out

@@ -1,18 +1,18 @@
--- `build::put_area` meets its contract. Assumes nothing.
+-- `net::put_area` meets its contract. Assumes nothing.
 use mathlib.Core.Path.{_≡_, refl, sym, ap, _∙_}
 use mathlib.Core.List.{[], _∷_}
 use native.Mathlib.Omega.{arith}
 use lib.Seq.{sets, set-out}
 use Prim.Native.Nat.{_-_}
-use Rattle.build.specs.Net.{valueWords, areaWords}
-use Rattle.build.proofs.NetLaws.{put-more, area-all}
+use Rattle.net.specs.Net.{valueWords, areaWords}
+use Rattle.net.proofs.NetLaws.{put-more, area-all}
 use borrow.Author.Needs.{needs}
-use Rattle.build.proofs.put_area.Statement.{statement}
-use Rattle.build.proofs.put_area.Tie as tie
-use Rattle.build.proofs.put_area.Reads as reads
-use Rattle.build.proofs.put_area.Lts as lts
-use Rattle.build.proofs.put_value.Reads as put-value-reads
-use Rattle.build.proofs.put_word.Reads as put-word-reads
+use Rattle.net.proofs.put_area.Statement.{statement}
+use Rattle.net.proofs.put_area.Tie as tie
+use Rattle.net.proofs.put_area.Reads as reads
+use Rattle.net.proofs.put_area.Lts as lts
+use Rattle.net.proofs.put_value.Reads as put-value-reads
+use Rattle.net.proofs.put_word.Reads as put-word-reads
 
 -- src/lib.rt:76:9
 returns : tie.Need-returns

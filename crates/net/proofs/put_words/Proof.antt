@@ -1,16 +1,16 @@
--- `build::put_words` meets its contract: word after word. Assumes nothing.
+-- `net::put_words` meets its contract: word after word. Assumes nothing.
 use mathlib.Core.Path.{_≡_, refl, sym, ap, _∙_}
 use mathlib.Core.List.{[], _∷_}
 use native.Mathlib.Omega.{arith}
 use lib.Seq.{sets, set-out}
-use Rattle.build.specs.Net.{bytesOf, wordsOf}
-use Rattle.build.proofs.NetLaws.{put-more}
+use Rattle.net.specs.Net.{bytesOf, wordsOf}
+use Rattle.net.proofs.NetLaws.{put-more}
 use borrow.Author.Needs.{needs}
-use Rattle.build.proofs.put_words.Statement.{statement}
-use Rattle.build.proofs.put_words.Tie as tie
-use Rattle.build.proofs.put_words.Reads as reads
-use Rattle.build.proofs.put_words.Lts as lts
-use Rattle.build.proofs.put_word.Reads as put-word-reads
+use Rattle.net.proofs.put_words.Statement.{statement}
+use Rattle.net.proofs.put_words.Tie as tie
+use Rattle.net.proofs.put_words.Reads as reads
+use Rattle.net.proofs.put_words.Lts as lts
+use Rattle.net.proofs.put_word.Reads as put-word-reads
 
 -- src/lib.rt:37:9
 returns : tie.Need-returns

@@ -10,7 +10,7 @@ use Rattle.frame.specs.Bcc.{xorAll}
 use Rattle.frame.specs.Frame.{frameOf, lastOf}
 use Rattle.frame.specs.declared.FrameCheck.the-variants.{Sound}
 use Rattle.frame.proofs.FrameLaws.{Counted, Framed, sound}
-use Rattle.build.specs.Telegram.{bodyOf, telegramOf}
+use Rattle.net.specs.Telegram.{bodyOf, telegramOf}
 
 module _ (adr : ℕ) (net : List ℕ) (some : 1 ≤ length net) (fits : length net ≤ 252) where
   long : length (telegramOf adr net) ≡ length net + 4

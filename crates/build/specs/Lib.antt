@@ -1,3 +1,0 @@
--- Telegrams as lists of bytes.
-pub mod Telegram
-pub mod Net

@@ -1,0 +1,64 @@
+-- `net::read_process` meets its contract. Assumes nothing.
+use Rattle.net.specs.Read.{processAt}
+use borrow.Author.Needs.{needs}
+use Rattle.net.proofs.read_process.Statement.{statement}
+use Rattle.net.proofs.read_process.Tie as tie
+use Rattle.net.proofs.read_process.Reads as reads
+use Rattle.net.proofs.read_process.Lts as lts
+use Rattle.net.proofs.take_word.Reads as take-word-reads
+
+-- src/lib.rt:168:14
+mul-at : tie.Need-mul-at
+mul-at c = search needs
+
+-- src/lib.rt:168:14
+add-at : tie.Need-add-at
+add-at c = search needs
+
+-- src/lib.rt:169:9
+take-word-requires : tie.Need-take-word-requires
+take-word-requires c κs = search needs
+
+-- src/lib.rt:170:27
+add-take-word : tie.Need-add-take-word
+add-take-word c = search needs
+
+-- src/lib.rt:170:9
+take-word-requires-2 : tie.Need-take-word-requires-2
+take-word-requires-2 c κs = search needs
+
+-- src/lib.rt:171:27
+add-take-word-2 : tie.Need-add-take-word-2
+add-take-word-2 c = search needs
+
+-- src/lib.rt:171:9
+take-word-requires-3 : tie.Need-take-word-requires-3
+take-word-requires-3 c κs = search needs
+
+-- src/lib.rt:172:27
+add-take-word-3 : tie.Need-add-take-word-3
+add-take-word-3 c = search needs
+
+-- src/lib.rt:172:9
+take-word-requires-4 : tie.Need-take-word-requires-4
+take-word-requires-4 c κs = search needs
+
+-- src/lib.rt:165:1
+returns : tie.Need-returns
+unfolding processAt
+returns c = rw (c .before .before .before .take-word .ensures, c .before .before .take-word2 .ensures, c .before .take-word3 .ensures, c .take-word4 .ensures)
+
+pub read-process-spec : {M : Type 1} → statement M
+read-process-spec =
+    tie.close
+    (tie.spec
+    mul-at
+    add-at
+    take-word-requires
+    add-take-word
+    take-word-requires-2
+    add-take-word-2
+    take-word-requires-3
+    add-take-word-3
+    take-word-requires-4
+    returns)

@@ -1,0 +1,22 @@
+-- `net::take_word` meets its contract. Assumes nothing.
+use borrow.Author.Needs.{needs}
+use Rattle.net.proofs.take_word.Statement.{statement}
+use Rattle.net.proofs.take_word.Tie as tie
+use Rattle.net.proofs.take_word.Reads as reads
+use Rattle.net.proofs.take_word.Lts as lts
+use Rattle.words.proofs.word_at.Reads as word-at-reads
+
+-- src/lib.rt:161:16
+word-at-requires : tie.Need-word-at-requires
+word-at-requires c κs = search needs
+
+-- src/lib.rt:158:1
+returns : tie.Need-returns
+returns c = rw (c .before .if1 .taken) (c .word-at .ensures)
+
+-- src/lib.rt:158:1
+returns-2 : tie.Need-returns-2
+returns-2 c = search needs
+
+pub take-word-spec : {M : Type 1} → statement M
+take-word-spec = tie.close (tie.spec word-at-requires returns returns-2)

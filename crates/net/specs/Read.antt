@@ -1,0 +1,29 @@
+-- The areas of a telegram, read from its bytes (document 01, Parameter area): the net bytes start at place 3.
+--     valueAt t n             the value over n words from place 7 on, high word first; a value has two words at most
+--     areaAt t n              the parameter area of n words
+--     processAt t n pzd old   the first pzd process words, behind an area of n words; the rest are the old ones
+use Prim.Native.Nat.{ℕ, zero, suc, _+_, _-_, _*_, _%_}
+use mathlib.Core.List.{List}
+use mathlib.Core.Bool.{Bool, true, false, cond}
+use lib.Dec.{ltb}
+use Rattle.words.specs.Words.{wordAt, doubleOf}
+use Rattle.words.specs.declared.Words.{Words}
+use Rattle.net.specs.declared.Area.{Area}
+
+unfoldable pub valueAt : List ℕ → ℕ → ℕ
+valueAt t zero = 0
+valueAt t (suc n) = doubleOf (valueAt t n % 65536) (wordAt t (n * 2 + 7))
+
+unfoldable pub areaAt : List ℕ → ℕ → Area
+areaAt t n = record { pke = wordAt t 3; ind = wordAt t 5; value = valueAt t (n - 2) }
+
+abbrev pub wordTaken : List ℕ → ℕ → Bool → ℕ → ℕ
+wordTaken t at taken old = cond taken (wordAt t at) old
+
+unfoldable pub processAt : List ℕ → ℕ → ℕ → Words → Words
+processAt t n pzd old = record {
+  w1 = wordTaken t (n * 2 + 3) (ltb 0 pzd) (old .w1);
+  w2 = wordTaken t (n * 2 + 3 + 2) (ltb 1 pzd) (old .w2);
+  w3 = wordTaken t (n * 2 + 3 + 4) (ltb 2 pzd) (old .w3);
+  w4 = wordTaken t (n * 2 + 3 + 6) (ltb 3 pzd) (old .w4);
+}
