@@ -1,0 +1,20 @@
+-- `broadcast::merge` meets its contract. Assumes nothing.
+use mathlib.Core.Path.{_≡_, refl, sym, ap, _∙_}
+use Rattle.broadcast.specs.Broadcast.{mergeOf}
+use borrow.Author.Needs.{needs}
+use Rattle.broadcast.proofs.merge.Statement.{statement}
+use Rattle.broadcast.proofs.merge.Tie as tie
+use Rattle.broadcast.proofs.merge.Reads as reads
+use Rattle.broadcast.proofs.merge.Lts as lts
+
+-- src/lib.rt:55:13
+sub-result : tie.Need-sub-result
+sub-result c = search needs
+
+-- src/lib.rt:52:1
+returns : tie.Need-returns
+unfolding mergeOf
+returns c = refl
+
+pub merge-spec : {M : Type 1} → statement M
+merge-spec = tie.close (tie.spec sub-result returns)

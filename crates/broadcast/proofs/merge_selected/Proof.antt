@@ -1,0 +1,22 @@
+-- `broadcast::merge_selected` meets its contract. Assumes nothing.
+use borrow.Author.Needs.{needs}
+use Rattle.broadcast.proofs.merge_selected.Statement.{statement}
+use Rattle.broadcast.proofs.merge_selected.Tie as tie
+use Rattle.broadcast.proofs.merge_selected.Reads as reads
+use Rattle.broadcast.proofs.merge_selected.Lts as lts
+use Rattle.broadcast.proofs.merge.Reads as merge-reads
+
+-- src/lib.rt:61:19
+merge-requires : tie.Need-merge-requires
+merge-requires c κs = search needs
+
+-- src/lib.rt:58:1
+returns : tie.Need-returns
+returns c = rw (c .before .if1 .taken) (c .merge .ensures)
+
+-- src/lib.rt:58:1
+returns-2 : tie.Need-returns-2
+returns-2 c = search needs
+
+pub merge-selected-spec : {M : Type 1} → statement M
+merge-selected-spec = tie.close (tie.spec merge-requires returns returns-2)

@@ -1,0 +1,2 @@
+-- Broadcasts, as document 01 has them.
+pub mod Broadcast
