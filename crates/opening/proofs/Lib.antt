@@ -1,0 +1,3 @@
+-- Laws of the opening check.
+pub mod PassLaws
+pub mod AnswersLaws
