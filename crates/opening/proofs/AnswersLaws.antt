@@ -8,6 +8,7 @@ use borrow.Author.Tests.{lt-ltb, le-ltb, le-leb, eq-eqb, ltb-false, leb-true, eq
 use lib.ListN.{length}
 use lib.Dec.{eqb, leb, ltb}
 use Rattle.rows.specs.Rows.{firstOf}
+use Rattle.rows.proofs.RowsLaws.{Chosen, first-chosen, chosen-first}
 use Rattle.rows.proofs.BoolLaws.{and-left, and-right, and-both}
 use Rattle.setup.specs.declared.Setup.{Setup}
 use Rattle.setup.specs.SetupRules.{setupOk}
@@ -17,7 +18,7 @@ use Rattle.opening.specs.declared.OpeningFault.the-variants.{BadSetup, B
 use Rattle.opening.specs.declared.Opening.{Opening}
 use Rattle.opening.specs.declared.Opening.the-variants.{Passed, Refused}
 use Rattle.opening.specs.Rules.{risingFrom, eachOk, runsOk, tableOk, valuesOk}
-use Rattle.opening.specs.Answers.{openingOf, contentOf}
+use Rattle.opening.specs.Answers.{openingRows, openingOf, contentOf}
 
 -- two tests refuse: so do they with a third after them
 two-refuse : (a b d : Bool) (f : OpeningFault) → firstOf ((not a, Refused BadTable) ∷ (not b, Refused BadValues) ∷ []) Passed ≡ Refused f
@@ -49,6 +50,16 @@ module _ (s : Setup) (t vs : List ℕ) (room : ℕ) where
   pub open-passed : setupOk s ≡ true → contentOf t vs ≡ Passed → 256 ≤ room → openingOf s t vs room ≡ Passed
   unfolding openingOf contentOf
   open-passed a e h = rw a (two-pass (tableOk t) (valuesOk t vs) (ltb room 256) e ∙ rw (le-ltb room 256 h))
+
+-- a number is given exactly when its line holds and no earlier one does
+module _ (s : Setup) (t vs : List ℕ) (room : ℕ) where
+  pub opening-chosen : Chosen (openingRows s t vs room) Passed (openingOf s t vs room)
+  unfolding openingOf
+  opening-chosen = first-chosen (openingRows s t vs room) Passed
+
+  pub chosen-opening : (r : Opening) → Chosen (openingRows s t vs room) Passed r → r ≡ openingOf s t vs room
+  unfolding openingOf
+  chosen-opening r c = chosen-first (openingRows s t vs room) Passed r c
 
 -- the facts of a set-up, a table, values and a buffer that passed
 pub record Opened (s : Setup) (t vs : List ℕ) (room : ℕ) : Type 0 where
