@@ -1,0 +1,3 @@
+-- Laws of one record.
+pub mod SignsLaws
+pub mod LimitsLaws

@@ -1,0 +1,97 @@
+-- Laws of a record's places and limits, and worked numbers. Assumes nothing.
+use Prim.Native.Nat.{ℕ, _+_, _/_, _%_, _<_, _≤_}
+use mathlib.Core.Path.{_≡_, refl, sym, _∙_}
+use mathlib.Core.List.{List, [], _∷_, map}
+use mathlib.Core.Bool.{Bool, true, false, cond, _&&_}
+use native.Mathlib.Omega.{arith}
+use lib.Dec.{eqb, leb, lit≤}
+use lib.IntN.{ℤ, pos, negsuc}
+use borrow.Author.Tests.{le-leb, eq-eqb, ne-eqb, leb-true, eqb-true, eqb-false}
+use Rattle.rows.proofs.BoolLaws.{and-left, and-right, and-both}
+use Rattle.entry.specs.declared.Entry.{Entry}
+use Rattle.entry.specs.Fields.{entryOf, countOf}
+use Rattle.entry.specs.Limits.{signedOf, numberOf, atMost, fitsIn, isWithin, entryOk}
+
+-- the places of a record
+pub count-none : (e : Entry) → e .elements ≡ 0 → countOf e ≡ 1
+unfolding countOf
+count-none e h = simp (eq-eqb _ _ h)
+
+pub count-some : (e : Entry) → (e .elements ≡ 0 → ⊥) → countOf e ≡ e .elements
+unfolding countOf
+count-some e h = simp (ne-eqb _ _ h)
+
+cond-bounds : (x m : ℕ) → 1 ≤ m → x ≤ m → (b : Bool) → eqb x 0 ≡ b → (1 ≤ cond b 1 x) × (cond b 1 x ≤ m)
+cond-bounds x m o h true e = (lit≤ tt, o)
+cond-bounds x m o h false e = (omega (arith, eqb-false x 0 e), h)
+
+pub count-pos : (e : Entry) → 1 ≤ countOf e
+unfolding countOf
+count-pos e = cond-bounds (e .elements) (e .elements + 1) (omega arith) (omega arith) (eqb (e .elements) 0) refl .0
+
+-- the head's eight bits count at most 255
+pub count-le : (head lo hi : ℕ) → countOf (entryOf head lo hi) ≤ 255
+unfolding countOf entryOf
+count-le head lo hi =
+    let x = head / 64 % 256 in
+    let h : x ≤ 255 = omega arith in
+    cond-bounds x 255 (lit≤ tt) h (eqb x 0) refl .1
+
+-- the facts of a record that keeps the rules, both ways
+pub record Ruled (e : Entry) : Type 0 where
+  pub numbers : e .number ≤ 31999
+  pub elements-few : e .elements ≤ 254
+  pub spare-none : e .spare ≡ 0
+  pub low-fits : fitsIn (e .double) (e .minimum) ≡ true
+  pub high-fits : fitsIn (e .double) (e .maximum) ≡ true
+  pub ordered : atMost (e .double) (e .signed) (e .minimum) (e .maximum) ≡ true
+
+pub ruled : (e : Entry) → entryOk e ≡ true → Ruled e
+unfolding entryOk
+ruled e h =
+    let a = leb (e .number) 31999 in
+    let b = leb (e .elements) 254 in
+    let c = eqb (e .spare) 0 in
+    let d = fitsIn (e .double) (e .minimum) in
+    let f = fitsIn (e .double) (e .maximum) in
+    let g = atMost (e .double) (e .signed) (e .minimum) (e .maximum) in
+    let h5 = and-left (a && b && c && d && f) g h in
+    let h4 = and-left (a && b && c && d) f h5 in
+    let h3 = and-left (a && b && c) d h4 in
+    let h2 = and-left (a && b) c h3 in
+    record {
+      numbers = leb-true (e .number) 31999 (and-left a b h2);
+      elements-few = leb-true (e .elements) 254 (and-right a b h2);
+      spare-none = eqb-true (e .spare) 0 (and-right (a && b) c h3);
+      low-fits = and-right (a && b && c) d h4;
+      high-fits = and-right (a && b && c && d) f h5;
+      ordered = and-right (a && b && c && d && f) g h;
+    }
+
+pub ruled-passes : (e : Entry) → Ruled e → entryOk e ≡ true
+unfolding entryOk
+ruled-passes e f =
+    and-both
+    (and-both
+    (and-both
+    (and-both (and-both (le-leb _ _ (f .numbers)) (le-leb _ _ (f .elements-few))) (eq-eqb _ _ (f .spare-none)))
+    (f .low-fits))
+    (f .high-fits))
+    (f .ordered)
+
+-- a value within the limits of a word has no upper half
+pub within-fits : (e : Entry) (v : ℕ) → isWithin e v ≡ true → fitsIn (e .double) v ≡ true
+unfolding isWithin
+within-fits e v h =
+    let a = fitsIn (e .double) v in
+    let b = atMost (e .double) (e .signed) (e .minimum) v in
+    and-left a b (and-left (a && b) (atMost (e .double) (e .signed) v (e .maximum)) h)
+
+-- -100, -1 and the ends of both widths
+pub signed-words : map (signedOf false) (0xff9c ∷ 0xffff ∷ 0 ∷ 0x7fff ∷ 0x8000 ∷ []) ≡ negsuc 99 ∷ negsuc 0 ∷ pos 0 ∷ pos 32767 ∷ negsuc 32767 ∷ []
+unfolding signedOf
+signed-words = refl
+
+pub signed-doubles : map (signedOf true) (0xffff_ff9c ∷ 0xffff_ffff ∷ 0 ∷ 0x7fff_ffff ∷ 0x8000_0000 ∷ []) ≡ negsuc 99 ∷ negsuc 0 ∷ pos 0 ∷ pos 2147483647 ∷ negsuc 2147483647 ∷ []
+unfolding signedOf
+signed-doubles = refl

@@ -1,0 +1,84 @@
+-- `entry::to_signed` meets its contract. Assumes nothing.
+use Prim.Native.Nat.{_-_, _%_}
+use native.Mathlib.Omega.{arith}
+use mir.Syntax.{w16, w32}
+use Rattle.entry.specs.Limits.{signedOf}
+use Rattle.entry.proofs.SignsLaws.{toZ-low, flip-fits, flip-is}
+use borrow.Author.Needs.{needs}
+use Rattle.entry.proofs.to_signed.Statement.{statement}
+use Rattle.entry.proofs.to_signed.Tie as tie
+use Rattle.entry.proofs.to_signed.Reads as reads
+use Rattle.entry.proofs.to_signed.Lts as lts
+
+-- src/lib.rt:50:20
+cast-result : tie.Need-cast-result
+cast-result c = search needs
+
+-- src/lib.rt:50:13
+returns : tie.Need-returns
+unfolding signedOf
+returns c = rw (c .before .if1 .taken)
+
+-- src/lib.rt:52:23
+sub-result : tie.Need-sub-result
+sub-result c = search needs
+
+-- src/lib.rt:52:22
+cast-result-2 : tie.Need-cast-result-2
+cast-result-2 c = search needs
+
+-- src/lib.rt:52:16
+sub-result-2 : tie.Need-sub-result-2
+sub-result-2 c = flip-fits (4294967295 - c .before .before .args .x) (omega arith)
+
+-- src/lib.rt:52:9
+returns-2 : tie.Need-returns-2
+unfolding signedOf
+returns-2 c =
+    let x = c .before .before .args .x in
+    rw (c .before .if1 .taken) (flip-is (4294967295 - x) (omega arith) w32 x (omega arith) (omega arith))
+
+-- src/lib.rt:56:16
+cast-result-3 : tie.Need-cast-result-3
+cast-result-3 c = search needs
+
+-- src/lib.rt:56:9
+returns-3 : tie.Need-returns-3
+unfolding signedOf
+returns-3 c = rw (c .before .if1 .left) (toZ-low w16 (c .before .before .args .x % 65536) (omega arith) (omega arith))
+
+-- src/lib.rt:58:12
+sub-result-3 : tie.Need-sub-result-3
+sub-result-3 c = search needs
+
+-- src/lib.rt:58:11
+cast-result-4 : tie.Need-cast-result-4
+cast-result-4 c = search needs
+
+-- src/lib.rt:58:5
+sub-result-4 : tie.Need-sub-result-4
+sub-result-4 c = flip-fits (65535 - c .before .before .args .x % 65536) (omega arith)
+
+-- src/lib.rt:45:1
+returns-4 : tie.Need-returns-4
+unfolding signedOf
+returns-4 c =
+    let x = c .before .before .args .x in
+    rw (c .before .if1 .left) (flip-is (65535 - x % 65536) (omega arith) w16 (x % 65536) (omega arith) (omega arith))
+
+pub to-signed-spec : {M : Type 1} → statement M
+to-signed-spec =
+    tie.close
+    (tie.spec
+    cast-result
+    returns
+    sub-result
+    cast-result-2
+    sub-result-2
+    returns-2
+    cast-result-3
+    returns-3
+    sub-result-3
+    cast-result-4
+    sub-result-4
+    returns-4)

@@ -1,0 +1,3 @@
+-- One record of a parameter table by itself.
+pub mod Fields
+pub mod Limits

@@ -1,0 +1,118 @@
+-- The answers of the opening check: each number exactly when, the facts of a passing check both ways. Assumes nothing.
+use Prim.Native.Nat.{ℕ, _/_, _%_, _<_, _≤_}
+use mathlib.Core.Path.{_≡_, refl, _∙_}
+use mathlib.Core.List.{List, [], _∷_}
+use mathlib.Core.Bool.{Bool, true, false, not, cond, _&&_}
+use native.Mathlib.Omega.{arith}
+use borrow.Author.Tests.{lt-ltb, le-ltb, le-leb, eq-eqb, ltb-false, leb-true, eqb-true}
+use lib.ListN.{length}
+use lib.Dec.{eqb, leb, ltb}
+use Rattle.rows.specs.Rows.{firstOf}
+use Rattle.rows.proofs.RowsLaws.{Chosen, first-chosen, chosen-first}
+use Rattle.rows.proofs.BoolLaws.{and-left, and-right, and-both}
+use Rattle.setup.specs.declared.Setup.{Setup}
+use Rattle.setup.specs.SetupRules.{setupOk}
+use Rattle.table.specs.Records.{entries, countsOf}
+use Rattle.opening.specs.declared.OpeningFault.{OpeningFault}
+use Rattle.opening.specs.declared.OpeningFault.the-variants.{BadSetup, BadTable, BadValues, ShortBuffer}
+use Rattle.opening.specs.declared.Opening.{Opening}
+use Rattle.opening.specs.declared.Opening.the-variants.{Passed, Refused}
+use Rattle.opening.specs.Rules.{risingFrom, eachOk, runsOk, tableOk, valuesOk}
+use Rattle.opening.specs.Answers.{openingRows, openingOf, contentOf}
+
+-- two tests refuse: so do they with a third after them
+two-refuse : (a b d : Bool) (f : OpeningFault) → firstOf ((not a, Refused BadTable) ∷ (not b, Refused BadValues) ∷ []) Passed ≡ Refused f
+    → firstOf ((not a, Refused BadTable) ∷ (not b, Refused BadValues) ∷ (d, Refused ShortBuffer) ∷ []) Passed ≡ Refused f
+two-refuse false b d f e = e
+two-refuse true false d f e = e
+two-refuse true true d f e = let z : _≡_ {A = ℕ} 0 1 = cc in absurd (omega arith)
+
+-- two tests pass: the third decides
+two-pass : (a b d : Bool) → firstOf ((not a, Refused BadTable) ∷ (not b, Refused BadValues) ∷ []) Passed ≡ Passed
+    → firstOf ((not a, Refused BadTable) ∷ (not b, Refused BadValues) ∷ (d, Refused ShortBuffer) ∷ []) Passed ≡ cond d (Refused ShortBuffer) Passed
+two-pass false b d e = let z : _≡_ {A = ℕ} 0 1 = cc in absurd (omega arith)
+two-pass true false d e = let z : _≡_ {A = ℕ} 0 1 = cc in absurd (omega arith)
+two-pass true true d e = refl
+
+module _ (s : Setup) (t vs : List ℕ) (room : ℕ) where
+  pub open-setup : setupOk s ≡ false → openingOf s t vs room ≡ Refused BadSetup
+  unfolding openingOf
+  open-setup a = rw a
+
+  pub open-content : (f : OpeningFault) → setupOk s ≡ true → contentOf t vs ≡ Refused f → openingOf s t vs room ≡ Refused f
+  unfolding openingOf contentOf
+  open-content f a e = rw a (two-refuse (tableOk t) (valuesOk t vs) (ltb room 256) f e)
+
+  pub open-buffer : setupOk s ≡ true → contentOf t vs ≡ Passed → room < 256 → openingOf s t vs room ≡ Refused ShortBuffer
+  unfolding openingOf contentOf
+  open-buffer a e h = rw a (two-pass (tableOk t) (valuesOk t vs) (ltb room 256) e ∙ rw (lt-ltb room 256 h))
+
+  pub open-passed : setupOk s ≡ true → contentOf t vs ≡ Passed → 256 ≤ room → openingOf s t vs room ≡ Passed
+  unfolding openingOf contentOf
+  open-passed a e h = rw a (two-pass (tableOk t) (valuesOk t vs) (ltb room 256) e ∙ rw (le-ltb room 256 h))
+
+-- a number is given exactly when its line holds and no earlier one does
+module _ (s : Setup) (t vs : List ℕ) (room : ℕ) where
+  pub opening-chosen : Chosen (openingRows s t vs room) Passed (openingOf s t vs room)
+  unfolding openingOf
+  opening-chosen = first-chosen (openingRows s t vs room) Passed
+
+  pub chosen-opening : (r : Opening) → Chosen (openingRows s t vs room) Passed r → r ≡ openingOf s t vs room
+  unfolding openingOf
+  chosen-opening r c = chosen-first (openingRows s t vs room) Passed r c
+
+-- the facts of a set-up, a table, values and a buffer that passed
+pub record Opened (s : Setup) (t vs : List ℕ) (room : ℕ) : Type 0 where
+  pub setup-good : setupOk s ≡ true
+  pub whole : length t % 12 ≡ 0
+  pub short : length t ≤ 6144
+  pub rising : risingFrom 0 (entries t) ≡ true
+  pub ruled : eachOk (entries t) ≡ true
+  pub places : countsOf (entries t) ≤ 4096
+  pub count : countsOf (entries t) ≡ length vs
+  pub limits : runsOk (entries t) vs 0 ≡ true
+  pub buffer : 256 ≤ room
+
+-- a passing check fails each of its rows
+all-passed : (a b c d : Bool) → firstOf ((not a, Refused BadSetup) ∷ (not b, Refused BadTable) ∷ (not c, Refused BadValues) ∷ (d, Refused ShortBuffer) ∷ []) Passed ≡ Passed
+    → (a ≡ true) × (b ≡ true) × (c ≡ true) × (d ≡ false)
+all-passed true true true false e = (refl, refl, refl, refl)
+all-passed false b c d e = let z : _≡_ {A = ℕ} 0 1 = cc in absurd (omega arith)
+all-passed true false c d e = let z : _≡_ {A = ℕ} 0 1 = cc in absurd (omega arith)
+all-passed true true false d e = let z : _≡_ {A = ℕ} 0 1 = cc in absurd (omega arith)
+all-passed true true true true e = let z : _≡_ {A = ℕ} 0 1 = cc in absurd (omega arith)
+
+module _ (s : Setup) (t vs : List ℕ) (room : ℕ) where
+  pub opened : openingOf s t vs room ≡ Passed → Opened s t vs room
+  unfolding openingOf
+  opened e =
+      let p = all-passed (setupOk s) (tableOk t) (valuesOk t vs) (ltb room 256) e in
+      let a = eqb (length t % 12) 0 in
+      let b = leb (length t / 12) 512 in
+      let r = risingFrom 0 (entries t) in
+      let o = eachOk (entries t) in
+      let n = leb (countsOf (entries t)) 4096 in
+      let h4 = and-left (a && b && r && o) n (p .1) in
+      let h3 = and-left (a && b && r) o h4 in
+      let h2 = and-left (a && b) r h3 in
+      let w = eqb-true (length t % 12) 0 (and-left a b h2) in
+      let f = leb-true (length t / 12) 512 (and-right a b h2) in
+      let q = eqb (countsOf (entries t)) (length vs) in
+      let v = runsOk (entries t) vs 0 in
+      record {
+        setup-good = p .0;
+        whole = w;
+        short = omega arith;
+        rising = and-right (a && b) r h3;
+        ruled = and-right (a && b && r) o h4;
+        places = leb-true (countsOf (entries t)) 4096 (and-right (a && b && r && o) n (p .1));
+        count = eqb-true (countsOf (entries t)) (length vs) (and-left q v (p .2));
+        limits = and-right q v (p .2);
+        buffer = ltb-false room 256 (p .3);
+      }
+
+  pub opens : Opened s t vs room → openingOf s t vs room ≡ Passed
+  unfolding openingOf
+  opens o =
+      let f = le-leb (length t / 12) 512 (omega arith) in
+      rw (o .setup-good, eq-eqb (length t % 12) 0 (o .whole), f, o .rising, o .ruled, le-leb _ _ (o .places), eq-eqb (countsOf (entries t)) (length vs) (o .count), o .limits, le-ltb room 256 (o .buffer))

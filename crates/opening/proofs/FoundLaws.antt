@@ -1,0 +1,87 @@
+-- What a passing opening check tells of a record that a search found: what a slave needs before it acts. Assumes nothing.
+use Prim.Native.Nat.{ℕ, zero, suc, _+_, _/_, _<_, _≤_}
+use mathlib.Core.Path.{_≡_, refl, sym, _∙_}
+use mathlib.Core.List.{List, [], _∷_}
+use mathlib.Core.Bool.{Bool, true, _&&_}
+use native.Mathlib.Omega.{arith}
+use native.Mathlib.Nat.{add-zero, zero-add}
+use lib.ListN.{length, getD}
+use Rattle.rows.proofs.BoolLaws.{and-left, and-right}
+use Rattle.setup.specs.declared.Setup.{Setup}
+use Rattle.entry.specs.Fields.{countOf}
+use Rattle.entry.specs.Limits.{isWithin, entryOk}
+use Rattle.entry.specs.declared.Entry.{Entry}
+use Rattle.table.specs.Records.{entryAt, entriesFrom, entries, findIn, countsOf, firstPlace}
+use Rattle.table.specs.declared.Found.the-variants.{At}
+use Rattle.table.proofs.RecordsLaws.{found-below}
+use Rattle.opening.specs.declared.Opening.the-variants.{Passed}
+use Rattle.opening.specs.Rules.{eachOk, runOk, runsOk}
+use Rattle.opening.specs.Answers.{openingOf}
+use Rattle.opening.proofs.AnswersLaws.{opened}
+use Rattle.opening.proofs.KeptLaws.{place-below}
+
+-- the m-th of records that each keep their rules
+each-at : (t : List ℕ) (n j m : ℕ) → eachOk (entriesFrom t n j) ≡ true → m < n → entryOk (entryAt t (j + m)) ≡ true
+unfolding eachOk entriesFrom
+each-at t zero j m h b = absurd (omega arith)
+each-at t (suc n) j zero h b = rw add-zero (and-left (entryOk (entryAt t j)) (eachOk (entriesFrom t n (suc j))) h)
+each-at t (suc n) j (suc m) h b =
+    let s : j + suc m ≡ suc j + m = omega arith in
+    rw s (each-at t n (suc j) m (and-right (entryOk (entryAt t j)) (eachOk (entriesFrom t n (suc j))) h) (omega arith))
+
+-- the i-th of values that are within one record's limits
+run-at : (e : Entry) (vs : List ℕ) (n p i : ℕ) → runOk e vs n p ≡ true → i < n → isWithin e (getD vs (p + i) 0) ≡ true
+unfolding runOk
+run-at e vs zero p i h b = absurd (omega arith)
+run-at e vs (suc n) p zero h b = rw add-zero (and-left (isWithin e (getD vs p 0)) (runOk e vs n (suc p)) h)
+run-at e vs (suc n) p (suc i) h b =
+    let s : p + suc i ≡ suc p + i = omega arith in
+    rw s (run-at e vs n (suc p) i (and-right (isWithin e (getD vs p 0)) (runOk e vs n (suc p)) h) (omega arith))
+
+-- the i-th value of the m-th record
+runs-at : (t vs : List ℕ) (m n j p i : ℕ) → runsOk (entriesFrom t n j) vs p ≡ true → m < n → i < countOf (entryAt t (j + m))
+    → isWithin (entryAt t (j + m)) (getD vs (p + countsOf (entriesFrom t m j) + i) 0) ≡ true
+unfolding runsOk entriesFrom countsOf
+runs-at t vs m zero j p i h a b = absurd (omega arith)
+runs-at t vs zero (suc n) j p i h a b =
+    let e = entryAt t j in
+    simp add-zero (run-at e vs (countOf e) p i (and-left (runOk e vs (countOf e) p) (runsOk (entriesFrom t n (suc j)) vs (p + countOf e)) h) (rw add-zero at b))
+runs-at t vs (suc m) (suc n) j p i h a b =
+    let s : j + suc m ≡ suc j + m = omega arith in
+    let e = entryAt t j in
+    let r = entriesFrom t m (suc j) in
+    let z : p + (countOf e + countsOf r) + i ≡ p + countOf e + countsOf r + i = omega arith in
+    rw (s, z) (runs-at t vs m n (suc j) (p + countOf e) i (and-right (runOk e vs (countOf e) p) (runsOk (entriesFrom t n (suc j)) vs (p + countOf e)) h) (omega arith) (rw s at b))
+
+-- the facts of a record of a table that passed
+pub record Placed (t vs : List ℕ) (k : ℕ) : Type 0 where
+  pub below : k < length t / 12
+  pub few : k < 512
+  pub ok : entryOk (entryAt t k) ≡ true
+  pub place : (i : ℕ) → i < countOf (entryAt t k) → firstPlace t k + i < length vs
+  pub value : (i : ℕ) → i < countOf (entryAt t k) → isWithin (entryAt t k) (getD vs (firstPlace t k + i) 0) ≡ true
+
+pub placed : (s : Setup) (t vs : List ℕ) (room k : ℕ) → openingOf s t vs room ≡ Passed → k < length t / 12 → Placed t vs k
+unfolding entries
+placed s t vs room k e b =
+    let o = opened s t vs room e in
+    let n = length t / 12 in
+    let z : 0 + k ≡ k = omega arith in
+    record {
+      below = b;
+      few = omega arith;
+      ok = rw z at (each-at t n 0 k (o .ruled) b);
+      place = λ i h. place-below t vs k i b h (o .count);
+      value = λ i h. simp zero-add at (runs-at t vs k n 0 0 i (o .limits) b (rw z h));
+    }
+
+-- of a record that was found by its number
+pub found-placed : (s : Setup) (t vs : List ℕ) (room number k : ℕ) → openingOf s t vs room ≡ Passed → findIn t number ≡ At k → Placed t vs k
+unfolding entries
+found-placed s t vs room number k e f =
+    let b = found-below number t (length t / 12) 0 k f in
+    placed s t vs room k e (omega arith)
+
+pub found-number : (t : List ℕ) (number k : ℕ) → findIn t number ≡ At k → entryAt t k .number ≡ number
+unfolding entries
+found-number t number k f = found-below number t (length t / 12) 0 k f .is

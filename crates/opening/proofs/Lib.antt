@@ -1,0 +1,5 @@
+-- Laws of the opening check.
+pub mod PassLaws
+pub mod AnswersLaws
+pub mod KeptLaws
+pub mod FoundLaws

@@ -1,0 +1,43 @@
+-- The rules of a parameter table and of the values that go with it (document 01, Parameter table; Answer numbers 21 and 22).
+--     risingFrom least es      numbers strictly rising: the first from `least` on, each further one over the one before it
+--     eachOk es                each record keeps its own rules
+--     tableOk t                whole records, at most 512, numbers rising, each record's rules, at most 4096 places
+--     runOk e vs n place       n values from a place on are within e's limits
+--     runsOk es vs place       the values of records in order, the first record's from a place on
+--     valuesOk t vs            the exact count, and each value within its record's limits
+use Prim.Native.Nat.{ℕ, zero, suc, _+_, _/_, _%_}
+use mathlib.Core.List.{List, [], _∷_}
+use mathlib.Core.Bool.{Bool, true, _&&_}
+use lib.ListN.{length, getD}
+use lib.Dec.{eqb, leb}
+use Rattle.entry.specs.declared.Entry.{Entry}
+use Rattle.entry.specs.Fields.{countOf}
+use Rattle.entry.specs.Limits.{isWithin, entryOk}
+use Rattle.table.specs.Records.{entries, countsOf}
+
+unfoldable pub risingFrom : ℕ → List Entry → Bool
+risingFrom least [] = true
+risingFrom least (e ∷ es) = leb least (e .number) && risingFrom (e .number + 1) es
+
+unfoldable pub eachOk : List Entry → Bool
+eachOk [] = true
+eachOk (e ∷ es) = entryOk e && eachOk es
+
+abbrev pub tableOk : List ℕ → Bool
+tableOk t =
+    eqb (length t % 12) 0
+    && leb (length t / 12) 512
+    && risingFrom 0 (entries t)
+    && eachOk (entries t)
+    && leb (countsOf (entries t)) 4096
+
+unfoldable pub runOk : Entry → List ℕ → ℕ → ℕ → Bool
+runOk e vs zero place = true
+runOk e vs (suc n) place = isWithin e (getD vs place 0) && runOk e vs n (suc place)
+
+unfoldable pub runsOk : List Entry → List ℕ → ℕ → Bool
+runsOk [] vs place = true
+runsOk (e ∷ es) vs place = runOk e vs (countOf e) place && runsOk es vs (place + countOf e)
+
+abbrev pub valuesOk : List ℕ → List ℕ → Bool
+valuesOk t vs = eqb (countsOf (entries t)) (length vs) && runsOk (entries t) vs 0

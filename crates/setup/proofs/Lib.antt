@@ -1,0 +1,2 @@
+-- Laws of set-ups.
+pub mod SetupLaws

@@ -1,0 +1,67 @@
+-- What a set-up that may be used is, both ways. Assumes nothing.
+use mathlib.Core.Path.{_≡_, refl, sym, ap, _∙_}
+use mathlib.Core.Logic.{_⊎_, inl, inr, ⊎-elim}
+use mathlib.Core.Bool.{Bool, true, false, not, _&&_, _||_, false≢true}
+use Prim.Native.Nat.{ℕ, _+_, _<_, _≤_}
+use native.Mathlib.Omega.{arith}
+use lib.Dec.{ltb, eqb}
+use borrow.Author.Tests.{le-ltb, lt-ltb, eq-eqb, ne-eqb, ltb-false, eqb-true, eqb-false, not-true, not-false}
+use Rattle.rows.proofs.BoolLaws.{or-left, or-right}
+use Rattle.setup.specs.declared.Setup.{Setup}
+use Rattle.setup.specs.SetupRules.{setupBad, setupOk}
+
+-- the facts of a set-up that may be used
+pub record Configured (s : Setup) : Type 0 where
+  pub nodes : s .node ≤ 31
+  pub areas : (s .pkw ≡ 0) ⊎ ((s .pkw ≡ 3) ⊎ (s .pkw ≡ 4))
+  pub process : s .pzd ≤ 4
+  pub some : 0 < s .pkw + s .pzd
+
+-- one of three tests held
+one-held : (x : ℕ) → (eqb x 0 || eqb x 3 || eqb x 4) ≡ true → (x ≡ 0) ⊎ ((x ≡ 3) ⊎ (x ≡ 4))
+one-held x e = go (eqb x 0) (eqb x 3) (eqb x 4) refl refl refl e
+  where
+    go : (a b c : Bool) → eqb x 0 ≡ a → eqb x 3 ≡ b → eqb x 4 ≡ c → (a || b || c) ≡ true → (x ≡ 0) ⊎ ((x ≡ 3) ⊎ (x ≡ 4))
+    go true b c p q r h = inl (eqb-true x 0 p)
+    go false true c p q r h = inr (inl (eqb-true x 3 q))
+    go false false true p q r h = inr (inr (eqb-true x 4 r))
+    go false false false p q r h = absurd (false≢true h)
+
+-- not both tests held
+not-both : (x y : ℕ) → (eqb x 0 && eqb y 0) ≡ false → 0 < x + y
+not-both x y e = go (eqb x 0) (eqb y 0) refl refl e
+  where
+    go : (a b : Bool) → eqb x 0 ≡ a → eqb y 0 ≡ b → (a && b) ≡ false → 0 < x + y
+    go true true p q h = absurd (false≢true (sym h))
+    go true false p q h = let n = eqb-false y 0 q in omega arith
+    go false b p q h = let n = eqb-false x 0 p in omega arith
+
+pub configured : (s : Setup) → setupOk s ≡ true → Configured s
+unfolding setupOk
+configured s e =
+    let a = ltb 31 (s .node) in
+    let b = not (eqb (s .pkw) 0 || eqb (s .pkw) 3 || eqb (s .pkw) 4) in
+    let c = ltb 4 (s .pzd) in
+    let d = eqb (s .pkw) 0 && eqb (s .pzd) 0 in
+    let none = not-true (setupBad s) e in
+    let abc = or-left (a || b || c) d none in
+    let ab = or-left (a || b) c abc in
+    record {
+      nodes = ltb-false 31 (s .node) (or-left a b ab);
+      areas = one-held (s .pkw) (not-false (eqb (s .pkw) 0 || eqb (s .pkw) 3 || eqb (s .pkw) 4) (or-right a b ab));
+      process = ltb-false 4 (s .pzd) (or-right (a || b) c abc);
+      some = not-both (s .pkw) (s .pzd) (or-right (a || b || c) d none);
+    }
+
+-- the same test of numbers
+ok-of : (n p z : ℕ) → n ≤ 31 → (p ≡ 0) ⊎ ((p ≡ 3) ⊎ (p ≡ 4)) → z ≤ 4 → 0 < p + z
+    → not (ltb 31 n || not (eqb p 0 || eqb p 3 || eqb p 4) || ltb 4 z || eqb p 0 && eqb z 0) ≡ true
+ok-of n p z a (inl e) c d =
+    let y : z ≡ 0 → ⊥ = λ q. omega arith in
+    rw (le-ltb 31 n a, e, le-ltb 4 z c, ne-eqb z 0 y)
+ok-of n p z a (inr (inl e)) c d = rw (le-ltb 31 n a, e, le-ltb 4 z c)
+ok-of n p z a (inr (inr e)) c d = rw (le-ltb 31 n a, e, le-ltb 4 z c)
+
+pub configured-passes : (s : Setup) → Configured s → setupOk s ≡ true
+unfolding setupOk
+configured-passes s f = ok-of (s .node) (s .pkw) (s .pzd) (f .nodes) (f .areas) (f .process) (f .some)

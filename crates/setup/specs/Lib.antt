@@ -1,0 +1,2 @@
+-- Which set-ups may be used.
+pub mod SetupRules

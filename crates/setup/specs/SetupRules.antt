@@ -1,0 +1,16 @@
+-- Which set-ups may be used (document 01, Answer numbers: 20, and 30 "set-up as 20").
+--     setupBad s      node over 31, PKW not 0, 3, 4, PZD over 4, or both 0
+--     setupOk s       none of these
+use mathlib.Core.Bool.{Bool, not, _&&_, _||_}
+use lib.Dec.{ltb, eqb}
+use Rattle.setup.specs.declared.Setup.{Setup}
+
+abbrev pub setupBad : Setup → Bool
+setupBad s =
+    ltb 31 (s .node)
+    || not (eqb (s .pkw) 0 || eqb (s .pkw) 3 || eqb (s .pkw) 4)
+    || ltb 4 (s .pzd)
+    || eqb (s .pkw) 0 && eqb (s .pzd) 0
+
+unfoldable pub setupOk : Setup → Bool
+setupOk s = not (setupBad s)

@@ -1,0 +1,28 @@
+// The set-up of a slave or a master: its node, its parameter words and its process words (document 01, answers 20 and 30).
+ghost use mathlib.Core.Path.{_≡_};
+ghost use Rattle.setup.specs.SetupRules.{setupOk};
+
+pub struct Setup {
+    pub node: u8,
+    pub pkw: u8,
+    pub pzd: u8,
+}
+
+// Whether a set-up may be used.
+pub fn setup_ok(setup: Setup) -> bool
+    ensures { λ r. ⌜ r ≡ setupOk setup ⌝ }
+{
+    if 31 < setup.node {
+        return false;
+    }
+    if 4 < setup.pzd {
+        return false;
+    }
+    if setup.pkw == 0 {
+        return setup.pzd != 0;
+    }
+    if setup.pkw == 3 {
+        return true;
+    }
+    setup.pkw == 4
+}

@@ -1,0 +1,2 @@
+-- Laws of the records of a table.
+pub mod RecordsLaws

@@ -1,0 +1,103 @@
+-- Laws of the records of a table. Assumes nothing.
+use Prim.Native.Nat.{ℕ, zero, suc, _+_, _-_, _*_, _/_, _%_, _<_, _≤_}
+use mathlib.Core.Path.{_≡_, refl, sym, ap, _∙_}
+use mathlib.Core.List.{List, [], _∷_}
+use mathlib.Core.Bool.{Bool, true, false, cond}
+use lib.Dec.{eqb}
+use native.Mathlib.Omega.{arith}
+use native.Mathlib.Numerals.{add-one}
+use native.Mathlib.Nat.{zero-add, add-zero, suc-add}
+use borrow.Author.Tests.{eq-eqb, ne-eqb, eqb-true}
+use Rattle.words.specs.Words.{wordAt, doubleAt, Bytes}
+use Rattle.entry.specs.declared.Entry.{Entry}
+use Rattle.entry.specs.Fields.{entryOf, countOf}
+use Rattle.entry.proofs.LimitsLaws.{count-le}
+use Rattle.table.specs.declared.Found.{Found}
+use Rattle.table.specs.declared.Found.the-variants.{At, Nothing}
+use Rattle.table.specs.Records.{entryAt, entriesFrom, findFrom, countsOf}
+
+-- the step of every loop over the records
+pub entries-step : (t : List ℕ) (n k : ℕ) → k < n → entriesFrom t (n - k) k ≡ entryAt t k ∷ entriesFrom t (n - (k + 1)) (k + 1)
+unfolding entriesFrom
+entries-step t n k h =
+    let e : n - k ≡ suc (n - (k + 1)) = omega arith in
+    rw (e, add-one)
+
+pub entries-end : (t : List ℕ) (n k : ℕ) → n ≤ k → entriesFrom t (n - k) k ≡ []
+unfolding entriesFrom
+entries-end t n k h =
+    let e : n - k ≡ 0 = omega arith in
+    rw e
+
+-- the number is in the first word of a record, the elements in its second
+pub number-is : (t : List ℕ) (k : ℕ) → Bytes t → wordAt t (12 * k) / 2 ≡ entryAt t k .number
+unfolding entryAt entryOf
+number-is t k b = omega (arith, b (12 * k + 2), b (12 * k + 2 + 1))
+
+pub count-is : (t : List ℕ) (k : ℕ) → countOf (entryOf (wordAt t (12 * k + 2)) 0 0) ≡ countOf (entryAt t k)
+unfolding entryAt entryOf countOf
+count-is t k =
+    let e : wordAt t (12 * k + 2) / 64 % 256 ≡ doubleAt t (12 * k) / 64 % 256 = omega arith in
+    rw e
+
+pub count-at-le : (t : List ℕ) (k : ℕ) → countOf (entryAt t k) ≤ 255
+unfolding entryAt
+count-at-le t k = count-le (doubleAt t (12 * k)) (doubleAt t (12 * k + 4)) (doubleAt t (12 * k + 8))
+
+-- the search, record by record
+module _ (number : ℕ) (e : Entry) (es : List Entry) (k : ℕ) where
+  pub find-here : e .number ≡ number → findFrom number (e ∷ es) k ≡ At k
+  unfolding findFrom
+  find-here h = simp (eq-eqb _ _ h)
+
+  pub find-on : (e .number ≡ number → ⊥) → findFrom number (e ∷ es) k ≡ findFrom number es (k + 1)
+  unfolding findFrom
+  find-on h = simp (ne-eqb _ _ h, add-one)
+
+pub find-none : (number k : ℕ) → findFrom number [] k ≡ Nothing
+unfolding findFrom
+find-none number k = refl
+
+-- what is found is one of the records, and has that number
+pub record Finds (t : List ℕ) (number k n : ℕ) : Type 0 where
+  pub below : k < n
+  pub is : entryAt t k .number ≡ number
+
+found-go : (t : List ℕ) (number j k n : ℕ) (rest : Found) (b : Bool) → eqb (entryAt t j .number) number ≡ b → cond b (At j) rest ≡ At k
+    → (rest ≡ At k → Finds t number k (suc j + n)) → Finds t number k (j + suc n)
+found-go t number j k n rest true q e h =
+    let s : j ≡ k = cc in
+    record { below = omega arith; is = ap (λ (i : ℕ). entryAt t i .number) (sym s) ∙ eqb-true (entryAt t j .number) number q }
+found-go t number j k n rest false q e h = let f = h e in record { below = omega arith; is = f .is }
+
+pub found-below : (number : ℕ) (t : List ℕ) (n j k : ℕ) → findFrom number (entriesFrom t n j) j ≡ At k → Finds t number k (j + n)
+unfolding findFrom entriesFrom
+found-below number t zero j k e = let z : _≡_ {A = ℕ} 0 1 = cc in absurd (omega arith)
+found-below number t (suc n) j k e =
+    found-go t number j k n (findFrom number (entriesFrom t n (suc j)) (suc j)) (eqb (entryAt t j .number) number) refl e (found-below number t n (suc j) k)
+
+-- the places of records
+pub counts-none : countsOf [] ≡ 0
+unfolding countsOf
+counts-none = refl
+
+pub counts-more : (e : Entry) (es : List Entry) → countsOf (e ∷ es) ≡ countOf e + countsOf es
+unfolding countsOf
+counts-more e es = refl
+
+-- the records before k, and those from k on
+counts-split : (t : List ℕ) (k n j : ℕ) → countsOf (entriesFrom t (k + n) j) ≡ countsOf (entriesFrom t k j) + countsOf (entriesFrom t n (j + k))
+unfolding countsOf entriesFrom
+counts-split t zero n j = simp (zero-add, add-zero)
+counts-split t (suc k) n j =
+    let ih = counts-split t k n (suc j) in
+    let e : j + suc k ≡ suc j + k = omega arith in
+    rw (suc-add, e, ih) (omega arith)
+
+-- the places of record k are among all
+pub places-fit : (t : List ℕ) (n k : ℕ) → k < n → countsOf (entriesFrom t k 0) + countOf (entryAt t k) ≤ countsOf (entriesFrom t n 0)
+places-fit t n k h =
+    let e : n ≡ k + (n - k) = omega arith in
+    let s = rw (← e, zero-add) at (counts-split t k (n - k) 0) in
+    let m = ap countsOf (entries-step t n k h) ∙ counts-more (entryAt t k) (entriesFrom t (n - (k + 1)) (k + 1)) in
+    omega arith

@@ -1,0 +1,71 @@
+-- `table::find` meets its contract. Assumes nothing.
+use Prim.Native.Nat.{_≤_, _-_}
+use mathlib.Core.Path.{_≡_, sym, _∙_}
+use native.Mathlib.Nat.{sub-zero}
+use native.Mathlib.Omega.{arith}
+use denote.Ref.{now}
+use Rattle.table.specs.Records.{entries, entriesFrom, findFrom}
+use Rattle.table.proofs.RecordsLaws.{entries-step, entries-end, find-here, find-on, find-none}
+use Rattle.table.proofs.find.Statement.{statement}
+use Rattle.table.proofs.find.Tie as tie
+use Rattle.table.proofs.find.Reads as reads
+use Rattle.table.proofs.find.Lts as lts
+use Rattle.table.proofs.number_at.Reads as number-at-reads
+
+abbrev Inv-loop : tie.InvT-loop
+Inv-loop t number n k₀ k = (k ≤ n) × (findFrom number (entriesFrom t n 0) 0 ≡ findFrom number (entriesFrom t (n - k) k) k)
+
+abbrev μ-loop : tie.MeasureT-loop
+μ-loop t number n k₀ k = n - k
+
+-- src/lib.rt:46:9
+loop-holds : tie.Need-loop-holds Inv-loop μ-loop
+loop-holds c = (omega arith, rw sub-zero)
+
+-- src/lib.rt:50:12
+number-at-requires : tie.Need-number-at-requires Inv-loop μ-loop
+number-at-requires c κs = omega arith
+
+-- src/lib.rt:53:9
+add-k : tie.Need-add-k Inv-loop μ-loop
+add-k c = omega arith
+
+-- src/lib.rt:46:9
+loop-less : tie.Need-loop-less Inv-loop μ-loop
+loop-less c = omega arith
+
+-- src/lib.rt:46:9
+loop-again : tie.Need-loop-again Inv-loop μ-loop
+loop-again c =
+    let e = c .before .before in
+    let l = e .before in
+    let t = now (l .before .before .args .t) in
+    (omega arith, l .loop .inv .1 ∙ rw (entries-step t _ (l .loop .k) (e .if1 .left)) (find-on _ _ _ _ (λ q. c .if2 .left (c .before .number-at .ensures ∙ q))))
+
+-- src/lib.rt:41:1
+returns : tie.Need-returns Inv-loop μ-loop
+unfolding entries
+returns c = sym (c .before .loop .inv .1 ∙ rw (entries-end _ _ _ (c .if1 .taken)) (find-none _ _))
+
+-- src/lib.rt:41:1
+returns-2 : tie.Need-returns-2 Inv-loop μ-loop
+unfolding entries
+returns-2 c =
+    let e = c .before .before in
+    let l = e .before in
+    let t = now (l .before .before .args .t) in
+    sym (l .loop .inv .1 ∙ rw (entries-step t _ (l .loop .k) (e .if1 .left)) (find-here _ _ _ _ (sym (c .before .number-at .ensures) ∙ c .if2 .taken)))
+
+pub find-spec : {M : Type 1} → statement M
+find-spec =
+    tie.close
+    (tie.spec
+    Inv-loop
+    μ-loop
+    loop-holds
+    number-at-requires
+    add-k
+    loop-less
+    loop-again
+    returns
+    returns-2)

@@ -1,0 +1,2 @@
+-- The records of a table.
+pub mod Records
