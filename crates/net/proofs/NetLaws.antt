@@ -7,7 +7,7 @@ use borrow.Author.Tests.{le-leb, le-ltb, ne-eqb}
 use lib.ListN.{length, take, drop, set, length-append}
 use lib.Seq.{sets, length-sets, length-take-le, take-all}
 use Rattle.words.specs.declared.Words.{Words}
-use Rattle.words.proofs.StoreLaws.{sets-append, sets-there, sets-beyond}
+use Rattle.store.proofs.StoreLaws.{sets-append, sets-there, sets-beyond}
 use Rattle.net.specs.declared.Area.{Area}
 use Rattle.net.specs.Telegram.{telegramOf, sealedOf, sealedLength}
 use Rattle.net.specs.Net.{bytesOf, wordsOf, valueWords, areaWords, netOf, normalOf, normalLength}

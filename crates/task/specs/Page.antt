@@ -3,7 +3,7 @@
 --     pageOf ind          the page of an IND word
 --     nibbleOf number     the upper four bits of the IND word of a full number
 --     baseOf pke          the base of a PKE word
---     numberOf pke ind    the full number
+--     fullNumber pke ind  the full number
 --     named pke           whether the base is below 2000: 2000 to 2047 name no parameter
 use Prim.Native.Nat.{ℕ, _+_, _*_, _/_, _%_}
 use mathlib.Core.Bool.{Bool}
@@ -28,8 +28,8 @@ nibbleOf number = getD nibbles (number / 2000) 0
 abbrev pub baseOf : ℕ → ℕ
 baseOf pke = pke % 2048
 
-abbrev pub numberOf : ℕ → ℕ → ℕ
-numberOf pke ind = pageOf ind * 2000 + baseOf pke
+abbrev pub fullNumber : ℕ → ℕ → ℕ
+fullNumber pke ind = pageOf ind * 2000 + baseOf pke
 
 abbrev pub named : ℕ → Bool
 named pke = ltb (baseOf pke) 2000

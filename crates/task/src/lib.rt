@@ -2,7 +2,7 @@
 // on a parameter, in the document's order.
 ghost use mathlib.Core.Path.{_≡_};
 ghost use Rattle.task.specs.Task.{taskOf};
-ghost use Rattle.task.specs.Page.{pageOf, nibbleOf, numberOf};
+ghost use Rattle.task.specs.Page.{pageOf, nibbleOf, fullNumber};
 ghost use Rattle.task.specs.Verdict.{refusesAct, changesAct, countsAct, otherWidth, noArray, noElement, noRoom, verdictOf, errorNumber, elementOf};
 ghost use mathlib.Core.Bool.{_&&_};
 
@@ -133,8 +133,8 @@ pub fn nibble_of(number: u16) -> u8
 }
 
 // The full number of PKE and IND: 2000 times the page, and the base.
-pub fn number_of(pke: u16, ind: u16) -> u16
-    ensures { λ r. ⌜ r ≡ numberOf pke ind ⌝ }
+pub fn full_number(pke: u16, ind: u16) -> u16
+    ensures { λ r. ⌜ r ≡ fullNumber pke ind ⌝ }
 {
     let page = page_of(ind);
     (page as u16) * 2000 + pke % 2048

@@ -1,3 +1,2 @@
--- Laws of bytes and words, and of stores into a list.
+-- Laws of bytes and words.
 pub mod WordsLaws
-pub mod StoreLaws

@@ -1,11 +1,11 @@
--- `task::number_of` meets its contract. Assumes nothing.
+-- `task::full_number` meets its contract. Assumes nothing.
 use native.Mathlib.Omega.{arith}
 use Rattle.task.proofs.PageLaws.{page-small}
 use borrow.Author.Needs.{needs}
-use Rattle.task.proofs.number_of.Statement.{statement}
-use Rattle.task.proofs.number_of.Tie as tie
-use Rattle.task.proofs.number_of.Reads as reads
-use Rattle.task.proofs.number_of.Lts as lts
+use Rattle.task.proofs.full_number.Statement.{statement}
+use Rattle.task.proofs.full_number.Tie as tie
+use Rattle.task.proofs.full_number.Reads as reads
+use Rattle.task.proofs.full_number.Lts as lts
 use Rattle.task.proofs.page_of.Reads as page-of-reads
 
 -- src/lib.rt:139:9
@@ -28,5 +28,5 @@ add-result c = omega (arith, c .page-of .ensures, page-small (c .before .args .i
 returns : tie.Need-returns
 returns c = search needs
 
-pub number-of-spec : {M : Type 1} → statement M
-number-of-spec = tie.close (tie.spec page-of-requires cast-result mul-result add-result returns)
+pub full-number-spec : {M : Type 1} → statement M
+full-number-spec = tie.close (tie.spec page-of-requires cast-result mul-result add-result returns)
