@@ -1,3 +1,4 @@
 -- The laws of the definitions that the functions' proofs and the crates above cite.
 pub mod XorLaws
 pub mod FrameLaws
+pub mod DecodedLaws

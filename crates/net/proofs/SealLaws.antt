@@ -12,12 +12,12 @@ use Rattle.frame.specs.declared.FrameCheck.the-variants.{Sound}
 use Rattle.frame.proofs.FrameLaws.{Counted, Framed, sound}
 use Rattle.net.specs.Telegram.{bodyOf, telegramOf}
 
-module _ (adr : ℕ) (net : List ℕ) (some : 1 ≤ length net) (fits : length net ≤ 252) where
-  long : length (telegramOf adr net) ≡ length net + 4
-  long = omega (arith, length-append (bodyOf adr net) (xorAll (bodyOf adr net) ∷ []))
+pub length-telegram : (adr : ℕ) (net : List ℕ) → length (telegramOf adr net) ≡ length net + 4
+length-telegram adr net = omega (arith, length-append (bodyOf adr net) (xorAll (bodyOf adr net) ∷ []))
 
+module _ (adr : ℕ) (net : List ℕ) (some : 1 ≤ length net) (fits : length net ≤ 252) where
   last : length (bodyOf adr net) ≡ lastOf (telegramOf adr net)
-  last = omega (arith, long)
+  last = omega (arith, length-telegram adr net)
 
   body : take (lastOf (telegramOf adr net)) (telegramOf adr net) ≡ bodyOf adr net
   body = take-at (bodyOf adr net) (xorAll (bodyOf adr net) ∷ []) (lastOf (telegramOf adr net)) last
@@ -27,15 +27,15 @@ module _ (adr : ℕ) (net : List ℕ) (some : 1 ≤ length net) (fits : length n
       sound (telegramOf adr net)
       (record {
         counted = record {
-          long = omega (arith, long);
+          long = omega (arith, length-telegram adr net);
           start = refl;
           low = omega arith;
           high = omega arith;
-          count = omega (arith, long);
+          count = omega (arith, length-telegram adr net);
         };
         check = getD-at (bodyOf adr net) (xorAll (bodyOf adr net)) [] 0 (lastOf (telegramOf adr net)) last ∙ ap xorAll (sym body);
       })
-      ∙ ap Sound (omega (arith, long))
+      ∙ ap Sound (omega (arith, length-telegram adr net))
 
   pub net-back : drop 3 (take (lastOf (telegramOf adr net)) (telegramOf adr net)) ≡ net
   net-back = ap (λ (l : List ℕ). drop 3 l) body

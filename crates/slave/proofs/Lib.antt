@@ -1,0 +1,3 @@
+-- Laws of the slave.
+pub mod PerformLaws
+pub mod CaseLaws

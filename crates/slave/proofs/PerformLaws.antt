@@ -1,0 +1,97 @@
+-- Laws of a parameter task. Assumes nothing.
+use mathlib.Core.Path.{_≡_, refl, sym, ap, _∙_}
+use mathlib.Core.Bool.{Bool, true, false, not, _&&_, cond, false≢true}
+use mathlib.Core.List.{List}
+use Prim.Native.Nat.{ℕ, _+_, _/_, _%_, _≤_, _<_}
+use native.Mathlib.Omega.{arith}
+use borrow.Author.Tests.{eqb-true, eqb-false, leb-false, lt-ltb, le-ltb}
+use lib.Dec.{eqb, leb, lit<}
+use lib.ListN.{length}
+use Rattle.rows.proofs.RowsLaws.{row-passed}
+use Rattle.entry.specs.declared.Entry.{Entry}
+use Rattle.entry.specs.Fields.{countOf}
+use Rattle.entry.specs.Limits.{isWithin}
+use Rattle.net.specs.declared.Area.{Area}
+use Rattle.table.specs.declared.Found.{Found}
+use Rattle.table.specs.declared.Found.the-variants.{At, Nothing}
+use Rattle.table.specs.Records.{findIn, entryAt, entries, firstPlace, countsOf}
+use Rattle.table.proofs.RecordsLaws.{found-below, places-fit}
+use Rattle.task.specs.declared.Act.{Act}
+use Rattle.task.specs.declared.Width.{Width}
+use Rattle.task.specs.declared.Task.{Task}
+use Rattle.task.specs.declared.ParameterError.{ParameterError}
+use Rattle.task.specs.declared.ParameterError.the-variants.{NoTask, NoArray, NoElement, NoParameter}
+use Rattle.task.specs.declared.Verdict.{Verdict}
+use Rattle.task.specs.declared.Verdict.the-variants.{Granted, Denied}
+use Rattle.task.specs.Page.{baseOf, fullNumber, named}
+use Rattle.task.specs.Verdict.{refusesAct, noArray, noElement, verdictOf, elementOf}
+use Rattle.slave.specs.Perform.{Performed, readReply, carried, errorArea, emptyArea, doneOf, verdictFor, performOn, performFound, performTask, foundOf, idle}
+
+pub read-reply-le : (reply : ℕ) (double : Bool) → reply ≤ 14 → readReply reply double ≤ 15
+read-reply-le reply true h = omega arith
+read-reply-le reply false h = omega arith
+
+-- ---- a granted task means an element that is there
+
+isGranted : Verdict → Bool
+isGranted Granted = true
+isGranted (Denied error) = false
+
+element-there : (array : Bool) (elements index : ℕ) → noElement array elements index ≡ false → elementOf array elements index < cond (eqb elements 0) 1 elements
+unfolding elementOf
+element-there array elements index h = go array (eqb elements 0) refl h
+  where
+    go : (x y : Bool) → eqb elements 0 ≡ y → (x && (not y && leb elements index)) ≡ false → cond (x && not y) index 0 < cond y 1 elements
+    go true true e f = lit< tt
+    go true false e f = leb-false elements index f
+    go false true e f = lit< tt
+    go false false e f = let n = eqb-false elements 0 e in omega arith
+
+pub granted-element : (act : Act) (width : Width) (array : Bool) (elements : ℕ) (double writable inside : Bool) (index n : ℕ)
+    → verdictOf act width array elements double writable inside index n ≡ Granted → elementOf array elements index < cond (eqb elements 0) 1 elements
+unfolding verdictOf isGranted
+granted-element act width array elements double writable inside index n e =
+    let p1 = row-passed isGranted (refusesAct act) (Denied NoTask) _ refl (ap isGranted e) in
+    let p2 = row-passed isGranted (noArray array elements index) (Denied NoArray) _ refl (p1 .1) in
+    let p3 = row-passed isGranted (noElement array elements index) (Denied NoElement) _ refl (p2 .1) in
+    element-there array elements index (p3 .0)
+
+-- ---- what is found is one of the records, and its places are among the values
+
+pub found-few : (t : List ℕ) (number k : ℕ) → length t ≤ 6144 → findIn t number ≡ At k → k < 512
+unfolding entries
+found-few t number k h e = omega (arith, found-below number t (length t / 12) 0 k e .below)
+
+pub found-fits : (t : List ℕ) (number k : ℕ) → findIn t number ≡ At k → firstPlace t k + countOf (entryAt t k) ≤ countsOf (entries t)
+unfolding entries
+found-fits t number k e = places-fit t (length t / 12) k (omega (arith, found-below number t (length t / 12) 0 k e .below))
+
+-- ---- the cases of a task
+
+module _ (n : ℕ) (k : Task) (a : Area) (e : Entry) (vs : List ℕ) (first : ℕ) where
+  pub task-denied : (error : ParameterError) → verdictFor n k a e ≡ Denied error → performOn n k a e vs first ≡ record { area = errorArea a error; values = vs }
+  unfolding performOn
+  task-denied error h = rw h
+
+  pub task-granted : verdictFor n k a e ≡ Granted
+      → performOn n k a e vs first
+      ≡ doneOf (k .act) (k .reply) a (e .double) (e .elements) (carried (k .width) (a .value)) vs (first + elementOf (k .array) (e .elements) (a .ind % 256))
+  unfolding performOn
+  task-granted h = rw h
+
+  pub granted-place : verdictFor n k a e ≡ Granted → first + countOf e ≤ length vs → first + elementOf (k .array) (e .elements) (a .ind % 256) < length vs
+  unfolding countOf
+  granted-place h f =
+      omega (arith, granted-element (k .act) (k .width) (k .array) (e .elements) (e .double) (e .writable) (isWithin e (carried (k .width) (a .value))) (a .ind % 256) n h)
+
+module _ (n : ℕ) (k : Task) (t vs : List ℕ) (a : Area) where
+  pub task-idle : idle (k .act) ≡ true → performTask n k t vs a ≡ record { area = emptyArea; values = vs }
+  task-idle i = rw i
+
+  pub task-unnamed : idle (k .act) ≡ false → 2000 ≤ baseOf (a .pke) → performTask n k t vs a ≡ record { area = errorArea a NoParameter; values = vs }
+  unfolding foundOf
+  task-unnamed i h = rw (i, le-ltb _ _ h)
+
+  pub task-found : (f : Found) → idle (k .act) ≡ false → baseOf (a .pke) < 2000 → findIn t (fullNumber (a .pke) (a .ind)) ≡ f → performTask n k t vs a ≡ performFound n k a t vs f
+  unfolding foundOf
+  task-found f i h e = rw (i, lt-ltb _ _ h, e)

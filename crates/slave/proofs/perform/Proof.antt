@@ -1,0 +1,166 @@
+-- `slave::perform` meets its contract: the task, the search, then the record. Assumes nothing.
+use mathlib.Core.Path.{_≡_, refl, sym, ap, _∙_}
+use mathlib.Core.Bool.{false}
+use Prim.Native.Nat.{_/_}
+use native.Mathlib.Omega.{arith}
+use Rattle.table.specs.declared.Found.the-variants.{Nothing}
+use Rattle.table.specs.Records.{findIn}
+use Rattle.task.specs.declared.Task.{Task}
+use Rattle.task.specs.Page.{fullNumber}
+use Rattle.task.proofs.TaskLaws.{reply-small}
+use Rattle.slave.specs.Perform.{idle, performTask, performOf}
+use Rattle.slave.proofs.PerformLaws.{found-few, found-fits, task-idle, task-unnamed, task-found}
+use borrow.Author.Needs.{needs}
+use Rattle.slave.proofs.perform.Statement.{statement}
+use Rattle.slave.proofs.perform.Tie as tie
+use Rattle.slave.proofs.perform.Reads as reads
+use Rattle.slave.proofs.perform.Lts as lts
+use Rattle.slave.proofs.is_idle.Reads as is-idle-reads
+use Rattle.slave.proofs.perform_on.Reads as perform-on-reads
+use Rattle.slave.proofs.reply_area.Reads as reply-area-reads
+use Rattle.table.proofs.entry_at.Reads as entry-at-reads
+use Rattle.table.proofs.find.Reads as find-reads
+use Rattle.table.proofs.first_place.Reads as first-place-reads
+use Rattle.task.proofs.full_number.Reads as full-number-reads
+use Rattle.task.proofs.task_of.Reads as task-of-reads
+
+performed : (c : tie.After-task-of) → (let a = c .before .before .before .before .args in performOf (a .n) (a .table .now) (a .values .now) (a .area) ≡ performTask (a .n) (c .task-of .result) (a .table .now) (a .values .now) (a .area))
+unfolding performOf
+performed c =
+    let a = c .before .before .before .before .args in
+    ap (λ (k : Task). performTask (a .n) k (a .table .now) (a .values .now) (a .area)) (sym (c .task-of .ensures))
+
+busy : (c : tie.Else1) → idle (c .before .before .task-of .result .act) ≡ false
+busy c = sym (c .before .is-idle .ensures) ∙ c .if1 .left
+
+found : (c : tie.After-find) → (let a = c .before .before .before .before .before .before .before .before .before .before .args in findIn (a .table .now) (fullNumber (a .area .pke) (a .area .ind)) ≡ c .find .result)
+found c = sym (c .find .ensures ∙ rw (c .before .full-number .ensures))
+
+-- src/lib.rt:174:14
+cast-id : tie.Need-cast-id
+cast-id c = search needs
+
+-- src/lib.rt:175:9
+task-of-requires : tie.Need-task-of-requires
+task-of-requires c κs = search needs
+
+-- src/lib.rt:177:8
+is-idle-requires : tie.Need-is-idle-requires
+is-idle-requires c κs = search needs
+
+-- src/lib.rt:178:9
+returns : tie.Need-returns
+returns c =
+    let d = c .before .before in
+    let a = d .before .before .before .before .args in
+    rw (performed d ∙ task-idle (a .n) (d .task-of .result) (a .table .now) (a .values .now) (a .area) (sym (c .before .is-idle .ensures) ∙ c .if1 .taken))
+    (record { area-is = refl; values-are = refl })
+
+-- src/lib.rt:185:9
+reply-area-requires : tie.Need-reply-area-requires
+reply-area-requires c κs = search needs
+
+-- src/lib.rt:185:9
+returns-2 : tie.Need-returns-2
+returns-2 c =
+    let i = c .before .before .before in
+    let d = i .before .before in
+    let a = d .before .before .before .before .args in
+    rw (performed d ∙ task-unnamed (a .n) (d .task-of .result) (a .table .now) (a .values .now) (a .area) (busy i) (c .before .if2 .taken))
+    (record { area-is = c .reply-area .ensures; values-are = refl })
+
+-- src/lib.rt:187:9
+full-number-requires : tie.Need-full-number-requires
+full-number-requires c κs = search needs
+
+-- src/lib.rt:188:11
+find-requires : tie.Need-find-requires
+find-requires c κs = search needs
+
+-- src/lib.rt:189:27
+enum-told : tie.Need-enum-told
+enum-told c = search needs
+
+-- src/lib.rt:189:27
+reply-area-requires-2 : tie.Need-reply-area-requires-2
+reply-area-requires-2 c κs = search needs
+
+-- src/lib.rt:190:19
+enum-known-place : tie.Need-enum-known-place
+enum-known-place c = search needs
+
+-- src/lib.rt:191:21
+cast-k : tie.Need-cast-k
+cast-k c =
+    let f = c .before .before .before in
+    let a = f .before .before .before .before .before .before .before .before .before .before in
+    omega (arith, found-few (a .args .table .now) _ _ (a .pre .0) (found f ∙ c .before .place .given .1))
+
+-- src/lib.rt:192:17
+entry-at-requires : tie.Need-entry-at-requires
+entry-at-requires c κs = search needs
+
+-- src/lib.rt:193:17
+first-place-requires : tie.Need-first-place-requires
+first-place-requires c κs = search needs
+
+-- src/lib.rt:194:13
+perform-on-requires : tie.Need-perform-on-requires
+perform-on-requires c κs =
+    let f = c .before .before .before .before .before .before in
+    let a = f .before .before .before .before .before .before .before .before .before .before in
+    let e = found f ∙ c .before .before .before .before .place .given .1 in (
+      rw (f .before .before .before .before .before .before .task-of .ensures) (omega (arith, reply-small (a .args .area .pke / 4096))),
+      rw (c .before .before .entry-at .ensures, c .before .first-place .ensures) (omega (arith, found-fits (a .args .table .now) _ _ e, a .pre .1)),
+    )
+
+-- src/lib.rt:170:1
+returns-3 : tie.Need-returns-3
+returns-3 c =
+    let f = c .before .before .before in
+    let d = f .before .before .before .before .before .before in
+    let a = d .before .before .before .before .args in
+    rw (performed d ∙ task-found (a .n) (d .task-of .result) (a .table .now) (a .values .now) (a .area) Nothing (busy (f .before .before .before .before)) (f .before .before .if2 .left) (found f ∙ c .before .enum-told .given .1))
+    (record { area-is = c .reply-area2 .ensures; values-are = refl })
+
+-- src/lib.rt:170:1
+same-length : tie.Need-same-length
+same-length c = search needs
+
+-- src/lib.rt:170:1
+returns-4 : tie.Need-returns-4
+returns-4 c =
+    let q = c .before .before in
+    let g = q .before .before in
+    let f = g .before .before .before .before .before in
+    let d = f .before .before .before .before .before .before in
+    let a = d .before .before .before .before .args in
+    rw (
+      performed d ∙ task-found (a .n) (d .task-of .result) (a .table .now) (a .values .now) (a .area) _ (busy (f .before .before .before .before)) (f .before .before .if2 .left) (found f ∙ g .before .before .before .place .given .1),
+      ← (g .before .entry-at .ensures),
+      ← (g .first-place .ensures),
+    )
+    (q .perform-on .ensures)
+
+pub perform-spec : {M : Type 1} → statement M
+perform-spec =
+    tie.close
+    (tie.spec
+    cast-id
+    task-of-requires
+    is-idle-requires
+    returns
+    reply-area-requires
+    returns-2
+    full-number-requires
+    find-requires
+    enum-told
+    reply-area-requires-2
+    enum-known-place
+    cast-k
+    entry-at-requires
+    first-place-requires
+    perform-on-requires
+    returns-3
+    same-length
+    returns-4)

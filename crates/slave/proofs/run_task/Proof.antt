@@ -1,0 +1,40 @@
+-- `slave::run_task` meets its contract. Assumes nothing.
+use mathlib.Core.Path.{_≡_, refl, sym, ap, _∙_}
+use borrow.Author.Tests.{ne-eqb}
+use Rattle.slave.specs.Slave.{taskDone}
+use borrow.Author.Needs.{needs}
+use Rattle.slave.proofs.run_task.Statement.{statement}
+use Rattle.slave.proofs.run_task.Tie as tie
+use Rattle.slave.proofs.run_task.Reads as reads
+use Rattle.slave.proofs.run_task.Lts as lts
+use Rattle.net.proofs.read_area.Reads as read-area-reads
+use Rattle.slave.proofs.perform.Reads as perform-reads
+
+-- src/lib.rt:205:9
+returns : tie.Need-returns
+unfolding taskDone
+returns c = rw (c .if1 .taken) (record { area-is = refl; values-are = refl })
+
+-- src/lib.rt:211:9
+read-area-requires : tie.Need-read-area-requires
+read-area-requires c κs = search needs
+
+-- src/lib.rt:212:5
+perform-requires : tie.Need-perform-requires
+perform-requires c κs = search needs
+
+-- src/lib.rt:200:1
+same-length : tie.Need-same-length
+same-length c = search needs
+
+-- src/lib.rt:200:1
+returns-2 : tie.Need-returns-2
+unfolding taskDone
+returns-2 c =
+    let p = c .before .before in
+    let i = p .before .before .before in
+    rw (ne-eqb _ _ (i .if1 .left), ← (p .before .before .read-area .ensures)) (p .perform .ensures)
+
+pub run-task-spec : {M : Type 1} → statement M
+run-task-spec =
+    tie.close (tie.spec returns read-area-requires perform-requires same-length returns-2)

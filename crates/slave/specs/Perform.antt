@@ -1,0 +1,112 @@
+-- A parameter task on the lent values (document 01, Parameter area): the reply's area and the values afterwards.
+--     replyArea a id v        a reply to the area a: ID and value, with a's base, page and index; the ignored bits are 0
+--     performOf n t vs a      the task in an area a of n words, on the table t and the values vs
+use Prim.Native.Nat.{ℕ, _+_, _*_, _/_, _%_}
+use mathlib.Core.Path.{_≡_}
+use mathlib.Core.Bool.{Bool, true, false, cond}
+use mathlib.Core.List.{List, [], _∷_}
+use lib.Dec.{eqb}
+use lib.ListN.{getD, set}
+use Rattle.net.specs.declared.Area.{Area}
+use Rattle.entry.specs.declared.Entry.{Entry}
+use Rattle.entry.specs.Limits.{isWithin}
+use Rattle.table.specs.declared.Found.{Found}
+use Rattle.table.specs.declared.Found.the-variants.{At, Nothing}
+use Rattle.table.specs.Records.{entryAt, findIn, firstPlace}
+use Rattle.task.specs.declared.Task.{Task}
+use Rattle.task.specs.declared.Act.{Act}
+use Rattle.task.specs.declared.Act.the-variants.{Nothing as Idle, Read, Change, Count, Refuse}
+use Rattle.task.specs.declared.Width.{Width}
+use Rattle.task.specs.declared.Width.the-variants.{Either, Word, Double}
+use Rattle.task.specs.declared.ParameterError.{ParameterError}
+use Rattle.task.specs.declared.ParameterError.the-variants.{NoParameter, NoTask}
+use Rattle.task.specs.declared.Verdict.{Verdict}
+use Rattle.task.specs.declared.Verdict.the-variants.{Granted, Denied}
+use Rattle.task.specs.Task.{taskOf}
+use Rattle.task.specs.Page.{baseOf, fullNumber, named}
+use Rattle.task.specs.Verdict.{verdictOf, elementOf, errorNumber}
+
+-- ---- replies
+
+abbrev pub replyArea : Area → ℕ → ℕ → Area
+replyArea a id v = record { pke = id * 4096 + baseOf (a .pke); ind = a .ind / 4096 * 4096 + a .ind % 256; value = v }
+
+-- errors carry reply ID 7
+abbrev pub errorArea : Area → ParameterError → Area
+errorArea a error = replyArea a 7 (errorNumber error)
+
+-- the whole area 0
+abbrev pub emptyArea : Area
+emptyArea = record { pke = 0; ind = 0; value = 0 }
+
+-- ---- what is done
+
+pub record Performed : Type 0 where
+  pub area : Area
+  pub values : List ℕ
+
+-- what a task that returns the area a leaves in the values
+pub record Performs (p : Performed) (a : Area) (vs : List ℕ) : Type 0 where
+  pub area-is : a ≡ p .area
+  pub values-are : vs ≡ p .values
+
+-- a word task carries a word: PWE1 of a four-word area is ignored
+abbrev pub carried : Width → ℕ → ℕ
+carried Either v = v
+carried Word v = v % 65536
+carried Double v = v
+
+-- a read of a double replies with the next ID
+abbrev pub readReply : ℕ → Bool → ℕ
+readReply reply double = reply + cond double 1 0
+
+-- task 9's answer: the number of elements, 1 where there is no array
+abbrev pub elementCount : ℕ → ℕ
+elementCount elements = cond (eqb elements 0) 1 elements
+
+-- what an act does where no error applies: v is the value that the task carries, `place` the place that it means
+abbrev pub doneOf : Act → ℕ → Area → Bool → ℕ → ℕ → List ℕ → ℕ → Performed
+doneOf Idle reply a double elements v vs place = record { area = emptyArea; values = vs }
+doneOf Read reply a double elements v vs place = record { area = replyArea a (readReply reply double) (getD vs place 0); values = vs }
+doneOf Change reply a double elements v vs place = record { area = replyArea a reply v; values = set vs place v }
+doneOf Count reply a double elements v vs place = record { area = replyArea a reply (elementCount elements); values = vs }
+doneOf Refuse reply a double elements v vs place = record { area = errorArea a NoTask; values = vs }
+
+-- an error changes no value
+abbrev pub answered : Verdict → Area → List ℕ → Performed → Performed
+answered Granted a vs done = done
+answered (Denied error) a vs done = record { area = errorArea a error; values = vs }
+
+-- the verdict on a task in an area a of n words, on a record
+abbrev pub verdictFor : ℕ → Task → Area → Entry → Verdict
+verdictFor n k a e =
+    verdictOf (k .act) (k .width) (k .array) (e .elements) (e .double) (e .writable) (isWithin e (carried (k .width) (a .value))) (a .ind % 256) n
+
+-- a task on a record whose first value place is `first`
+unfoldable pub performOn : ℕ → Task → Area → Entry → List ℕ → ℕ → Performed
+performOn n k a e vs first =
+    answered (verdictFor n k a e) a vs
+    (doneOf (k .act) (k .reply) a (e .double) (e .elements) (carried (k .width) (a .value)) vs
+    (first + elementOf (k .array) (e .elements) (a .ind % 256)))
+
+abbrev pub performFound : ℕ → Task → Area → List ℕ → List ℕ → Found → Performed
+performFound n k a t vs Nothing = record { area = errorArea a NoParameter; values = vs }
+performFound n k a t vs (At j) = performOn n k a (entryAt t j) vs (firstPlace t j)
+
+-- a base of 2000 to 2047 names no parameter
+unfoldable pub foundOf : List ℕ → Area → Found
+foundOf t a = cond (named (a .pke)) (findIn t (fullNumber (a .pke) (a .ind))) Nothing
+
+abbrev pub idle : Act → Bool
+idle Idle = true
+idle Read = false
+idle Change = false
+idle Count = false
+idle Refuse = false
+
+-- task 0 does nothing, and no error is looked for
+abbrev pub performTask : ℕ → Task → List ℕ → List ℕ → Area → Performed
+performTask n k t vs a = cond (idle (k .act)) (record { area = emptyArea; values = vs }) (performFound n k a t vs (foundOf t a))
+
+unfoldable pub performOf : ℕ → List ℕ → List ℕ → Area → Performed
+performOf n t vs a = performTask n (taskOf (a .pke / 4096)) t vs a

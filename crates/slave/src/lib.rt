@@ -1,0 +1,397 @@
+// The slave (document 01, Slave): one call takes a received page, runs its task on the lent values, and answers.
+ghost use mathlib.Core.Path.{_≡_};
+ghost use Prim.Native.Nat.{_+_, _≤_, _<_};
+ghost use lib.ListN.{length, set};
+ghost use Rattle.entry.specs.Fields.{countOf};
+ghost use Rattle.table.specs.Records.{countsOf, entries};
+ghost use Rattle.opening.specs.Answers.{openingOf};
+ghost use Rattle.opening.specs.declared.Opening.the-variants.{Passed};
+ghost use Rattle.slave.specs.Perform.{replyArea, elementCount, carried, readReply, idle, doneOf, performOn, performOf, Performs};
+ghost use Rattle.slave.specs.Slave.{Leaves, refusedServed, taskDone, controlTaken, commandAt, normalCase, mirrorCase, broadcastCase, executeOf, callOf};
+use broadcast::Command;
+use entry::Entry;
+use frame::Decoded;
+use frame::Fault;
+use net::Area;
+use opening::Opening;
+use opening::OpeningFault;
+use setup::Setup;
+use table::Found;
+use task::Act;
+use task::Task;
+use task::Verdict;
+use task::Width;
+use words::Words;
+
+// Why a call is refused: by the opening check (20 to 23), by the frame or the address (10 to 15), or 16, 17, 18.
+pub enum Refusal {
+    AtOpening(OpeningFault),
+    InTelegram(Fault),
+    OtherNode,
+    OtherLength,
+    VoidBroadcast,
+}
+
+// The answer of a call.
+pub enum Answer {
+    Replied,
+    Mirrored,
+    Taken,
+    Refused(Refusal),
+}
+
+// What a call returns: its answer, the reply's length, and the control words afterwards.
+pub struct Served {
+    pub answer: Answer,
+    pub length: usize,
+    pub control: Words,
+}
+
+// ---- a parameter task
+
+// A reply's area: ID and value, with the task's base, page and index.
+fn reply_area(area: Area, id: u8, value: u32) -> Area
+    requires { ⌜ id ≤ 15 ⌝ }
+    ensures { λ r. ⌜ r ≡ replyArea area id value ⌝ }
+{
+    Area {
+        pke: (id as u16) * 4096 + area.pke % 2048,
+        ind: area.ind / 4096 * 4096 + area.ind % 256,
+        value,
+    }
+}
+
+// The value that a task carries: a word task only the low word.
+fn carry(width: Width, value: u32) -> u32
+    ensures { λ r. ⌜ r ≡ carried width value ⌝ }
+{
+    match width {
+        Width::Either => value,
+        Width::Word => value % 65536,
+        Width::Double => value,
+    }
+}
+
+// A change: one place is written.
+fn store(values: &mut [u32], place: usize, value: u32)
+    requires { ⌜ place < length (now values) ⌝ }
+    ensures { λ _. ⌜ now (values .exit) ≡ set (now (values .entry)) place value ⌝ }
+{
+    values[place] = value;
+}
+
+// The reply ID of a read: the next one for a double.
+fn read_id(reply: u8, double: bool) -> u8
+    requires { ⌜ reply ≤ 14 ⌝ }
+    ensures { λ r. ⌜ r ≡ readReply reply double ⌝ }
+{
+    if double { reply + 1 } else { reply }
+}
+
+// Task 9's answer: the number of elements, 1 where there is no array.
+fn count_elements(elements: u8) -> u32
+    ensures { λ r. ⌜ r ≡ elementCount elements ⌝ }
+{
+    if elements == 0 { 1 } else { elements as u32 }
+}
+
+// What an act does where no error applies.
+fn run_act(
+    act: Act,
+    reply: u8,
+    area: Area,
+    double: bool,
+    elements: u8,
+    value: u32,
+    values: &mut [u32],
+    place: usize,
+) -> Area
+    requires { ⌜ (reply ≤ 14) × (place < length (now values)) ⌝ }
+    ensures { λ r. ⌜ Performs (doneOf act reply area double elements value (now (values .entry)) place) r (now (values .exit)) ⌝ }
+{
+    match act {
+        Act::Nothing => Area {
+            pke: 0,
+            ind: 0,
+            value: 0,
+        },
+        Act::Read => {
+            let value = values[place];
+            reply_area(area, read_id(reply, double), value)
+        }
+        Act::Change => {
+            store(values, place, value);
+            reply_area(area, reply, value)
+        }
+        Act::Count => reply_area(area, reply, count_elements(elements)),
+        Act::Refuse => reply_area(area, 7, 106),
+    }
+}
+
+// A task on a record whose first value place is `first`: the first error that applies, or the act.
+fn perform_on(n: u8, task: Task, area: Area, e: Entry, values: &mut [u32], first: usize) -> Area
+    requires { ⌜ (task .reply ≤ 14) × (first + countOf e ≤ length (now values)) ⌝ }
+    ensures { λ r. ⌜ Performs (performOn n task area e (now (values .entry)) first) r (now (values .exit)) ⌝ }
+{
+    let act = task.act;
+    let width = task.width;
+    let index = (area.ind % 256) as u8;
+    let value = carry(width, area.value);
+    let inside = entry::within(e, value);
+    let verdict = task::judge(
+        act,
+        width,
+        task.array,
+        e.elements,
+        e.double,
+        e.writable,
+        inside,
+        index,
+        n,
+    );
+    match verdict {
+        Verdict::Denied(error) => reply_area(area, 7, task::number_error(error) as u32),
+        Verdict::Granted => {
+            let element = task::pick_element(task.array, e.elements, index);
+            let place = first + element as usize;
+            run_act(
+                act,
+                task.reply,
+                area,
+                e.double,
+                e.elements,
+                value,
+                values,
+                place,
+            )
+        }
+    }
+}
+
+// Whether the act is that of task 0.
+fn is_idle(act: Act) -> bool
+    ensures { λ r. ⌜ r ≡ idle act ⌝ }
+{
+    match act {
+        Act::Nothing => true,
+        Act::Read => false,
+        Act::Change => false,
+        Act::Count => false,
+        Act::Refuse => false,
+    }
+}
+
+// The task in an area of n words, on a table and values that passed the opening check.
+fn perform(n: u8, table: &[u8], values: &mut [u32], area: Area) -> Area
+    requires { ⌜ (length (now table) ≤ 6144) × (countsOf (entries (now table)) ≤ length (now values)) ⌝ }
+    ensures { λ r. ⌜ Performs (performOf n (now (table .entry)) (now (values .entry)) area) r (now (values .exit)) ⌝ }
+{
+    let id = (area.pke / 4096) as u8;
+    let task = task::task_of(id);
+    let act = task.act;
+    if is_idle(act) {
+        return Area {
+            pke: 0,
+            ind: 0,
+            value: 0,
+        };
+    }
+    if 2000 <= area.pke % 2048 {
+        return reply_area(area, 7, 0);
+    }
+    let number = task::full_number(area.pke, area.ind);
+    match table::find(table, number) {
+        Found::Nothing => reply_area(area, 7, 0),
+        Found::At(place) => {
+            let k = place as u16;
+            let e = table::entry_at(table, k);
+            let first = table::first_place(table, k);
+            perform_on(n, task, area, e, values, first)
+        }
+    }
+}
+
+// The parameter task of a telegram, if PKW is not 0.
+fn run_task(n: u8, table: &[u8], values: &mut [u32], received: &[u8]) -> Area
+    requires { ⌜ (length (now table) ≤ 6144) × (countsOf (entries (now table)) ≤ length (now values)) ⌝ }
+    ensures { λ r. ⌜ Performs (taskDone n (now (table .entry)) (now (values .entry)) (now (received .entry))) r (now (values .exit)) ⌝ }
+{
+    if n == 0 {
+        return Area {
+            pke: 0,
+            ind: 0,
+            value: 0,
+        };
+    }
+    let area = net::read_area(received, n);
+    perform(n, table, values, area)
+}
+
+// ---- the call
+
+// The control words after a normal telegram.
+fn take_control(setup: Setup, control: Words, received: &[u8]) -> Words
+    ensures { λ r. ⌜ r ≡ controlTaken setup control (now (received .entry)) ⌝ }
+{
+    if setup.pzd != 0 {
+        let first = words::word_at(received, (setup.pkw as usize) * 2 + 3);
+        if first / 1024 % 2 == 1 {
+            return net::read_process(received, setup.pkw, setup.pzd, control);
+        }
+    }
+    control
+}
+
+// The parameter area of a broadcast.
+fn read_command(received: &[u8], n: u8) -> Command
+    ensures { λ r. ⌜ r ≡ commandAt (now (received .entry)) n ⌝ }
+{
+    let selector = words::word_at(received, 3);
+    let mask1 = words::word_at(received, 5);
+    let mask2 = words::word_at(received, 7);
+    let fourth = if n == 4 {
+        words::word_at(received, 9)
+    } else {
+        0
+    };
+    Command {
+        selector,
+        mask1,
+        mask2,
+        fourth,
+    }
+}
+
+fn refuse(refusal: Refusal, control: Words) -> Served
+    ensures { λ r. ⌜ r ≡ refusedServed refusal control ⌝ }
+{
+    Served {
+        answer: Answer::Refused(refusal),
+        length: 0,
+        control,
+    }
+}
+
+// A normal telegram to a node, with n net bytes: 16, 17, or the reply.
+fn serve_normal(
+    setup: Setup,
+    table: &[u8],
+    values: &mut [u32],
+    control: Words,
+    status: Words,
+    received: &[u8],
+    reply: &mut [u8],
+    node: u8,
+    n: usize,
+) -> Served
+    requires { ⌜ openingOf setup (now table) (now values) (length (now reply)) ≡ Passed ⌝ }
+    ensures { λ r. ⌜ Leaves (normalCase node n setup (now (table .entry)) (now (values .entry)) control status (now (received .entry)) (now (reply .entry))) r (now (values .exit)) (now (reply .exit)) ⌝ }
+{
+    if node != setup.node {
+        return refuse(Refusal::OtherNode, control);
+    }
+    if n != ((setup.pkw as usize) + (setup.pzd as usize)) * 2 {
+        return refuse(Refusal::OtherLength, control);
+    }
+    let area = run_task(setup.pkw, table, values, received);
+    let next = take_control(setup, control, received);
+    let length = net::write_normal(reply, setup.node, area, setup.pkw, status, setup.pzd);
+    Served {
+        answer: Answer::Replied,
+        length,
+        control: next,
+    }
+}
+
+// A mirror telegram to a node: 16, or the telegram itself.
+fn serve_mirror(setup: Setup, control: Words, received: &[u8], reply: &mut [u8], node: u8) -> Served
+    requires { ⌜ length (now received) ≤ length (now reply) ⌝ }
+    ensures { λ r. ⌜ (r ≡ mirrorCase node setup control (now (received .entry)) (now (reply .entry)) .served) × (now (reply .exit) ≡ mirrorCase node setup control (now (received .entry)) (now (reply .entry)) .reply) ⌝ }
+{
+    if node != setup.node {
+        return refuse(Refusal::OtherNode, control);
+    }
+    let length = store::put(reply, 0, received);
+    Served {
+        answer: Answer::Mirrored,
+        length,
+        control,
+    }
+}
+
+// A broadcast with n net bytes: 17, 18, or the control words with the masked bits taken. No reply.
+fn serve_broadcast(setup: Setup, control: Words, received: &[u8], n: usize) -> Served
+    ensures { λ r. ⌜ r ≡ broadcastCase n setup control (now (received .entry)) ⌝ }
+{
+    if n != ((setup.pkw as usize) + (setup.pzd as usize)) * 2 {
+        return refuse(Refusal::OtherLength, control);
+    }
+    let command = read_command(received, setup.pkw);
+    let first = words::word_at(received, (setup.pkw as usize) * 2 + 3);
+    if broadcast::is_void(command, setup.pkw, setup.pzd, first) {
+        return refuse(Refusal::VoidBroadcast, control);
+    }
+    let process = net::read_process(received, setup.pkw, setup.pzd, control);
+    Served {
+        answer: Answer::Taken,
+        length: 0,
+        control: broadcast::command_control(command, control, process),
+    }
+}
+
+// The telegram after the opening check.
+fn execute(
+    setup: Setup,
+    table: &[u8],
+    values: &mut [u32],
+    control: Words,
+    status: Words,
+    received: &[u8],
+    reply: &mut [u8],
+) -> Served
+    requires { ⌜ openingOf setup (now table) (now values) (length (now reply)) ≡ Passed ⌝ }
+    ensures { λ r. ⌜ Leaves (executeOf setup (now (table .entry)) (now (values .entry)) control status (now (received .entry)) (now (reply .entry))) r (now (values .exit)) (now (reply .exit)) ⌝ }
+{
+    match frame::decode(received) {
+        Decoded::Refused(fault) => refuse(Refusal::InTelegram(fault), control),
+        Decoded::Mirror { node } => serve_mirror(setup, control, received, reply, node),
+        Decoded::Broadcast => serve_broadcast(setup, control, received, received.len() - 4),
+        Decoded::Normal {
+            node,
+            net_start,
+            net_end,
+        } => {
+            let n = net_end - net_start;
+            serve_normal(
+                setup,
+                table,
+                values,
+                control,
+                status,
+                received,
+                reply,
+                node,
+                n,
+            )
+        }
+    }
+}
+
+// The slave call. A refusal writes nothing and returns the given control state; a reply writes only its own bytes at the
+// buffer's start; a change writes one place.
+pub fn serve(
+    setup: Setup,
+    table: &[u8],
+    values: &mut [u32],
+    control: Words,
+    status: Words,
+    received: &[u8],
+    reply: &mut [u8],
+) -> Served
+    ensures { λ r. ⌜ Leaves (callOf setup (now (table .entry)) (now (values .entry)) control status (now (received .entry)) (now (reply .entry))) r (now (values .exit)) (now (reply .exit)) ⌝ }
+{
+    match opening::open(setup, table, &values[..], reply.len()) {
+        Opening::Refused(fault) => refuse(Refusal::AtOpening(fault), control),
+        Opening::Passed => execute(setup, table, values, control, status, received, reply),
+    }
+}
