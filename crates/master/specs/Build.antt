@@ -1,0 +1,75 @@
+-- The telegrams that a master builds (document 01, Answer numbers 30 to 32): the ignored bits of PKE and IND and an ignored PWE1
+-- are written 0, the index always as given; a mirror carries the node with bit 6; a broadcast is written as given with node 0.
+--     buildNumber f           the document's number of a refusal
+--     telegramFor s r net     the telegram of a request
+--     builtOf s r net out     the answer, the length and the buffer afterwards
+use mathlib.Core.Path.{_≡_}
+use Prim.Native.Nat.{ℕ, _+_, _*_, _%_}
+use mathlib.Core.Bool.{Bool, true, false, not, cond}
+use mathlib.Core.List.{List, [], _∷_, _++_}
+use lib.Dec.{eqb, ltb}
+use lib.ListN.{length, drop}
+use Rattle.rows.specs.Rows.{firstOf}
+use Rattle.words.specs.declared.Words.{Words}
+use Rattle.setup.specs.declared.Setup.{Setup}
+use Rattle.setup.specs.SetupRules.{setupOk}
+use Rattle.net.specs.declared.Area.{Area}
+use Rattle.net.specs.Net.{netOf}
+use Rattle.net.specs.Telegram.{telegramOf}
+use Rattle.task.specs.Page.{nibbleOf}
+use Rattle.master.specs.declared.Request.{Request}
+use Rattle.master.specs.declared.Request.the-variants.{Task, Mirror, Broadcast}
+use Rattle.master.specs.declared.BuildFault.{BuildFault}
+use Rattle.master.specs.declared.BuildFault.the-variants.{BadSetup, NotExpressible, ShortBuffer}
+use Rattle.master.specs.declared.BuildAnswer.{BuildAnswer}
+use Rattle.master.specs.declared.BuildAnswer.the-variants.{Done, Refused}
+use Rattle.master.specs.declared.Built.{Built}
+use Rattle.master.specs.Request.{expressible}
+
+abbrev pub buildNumber : BuildFault → ℕ
+buildNumber BadSetup = 30
+buildNumber NotExpressible = 31
+buildNumber ShortBuffer = 32
+
+abbrev pub builtNumber : BuildAnswer → ℕ
+builtNumber Done = 0
+builtNumber (Refused fault) = buildNumber fault
+
+-- PKE is task ID and base, IND is page and index
+unfoldable pub taskArea : ℕ → ℕ → ℕ → ℕ → Area
+taskArea id number index value = record { pke = id * 4096 + number % 2000; ind = nibbleOf number * 4096 + index; value = value }
+
+-- selector, two masks, and a fourth word 0 where there is one
+unfoldable pub commandArea : ℕ → ℕ → ℕ → ℕ → Area
+commandArea pkw selector mask1 mask2 = record { pke = selector; ind = mask1; value = cond (eqb pkw 4) (mask2 * 65536) mask2 }
+
+unfoldable pub telegramFor : Setup → Request → List ℕ → List ℕ
+telegramFor s (Task id number index value process) net = telegramOf (s .node) (netOf (taskArea id number index value) (s .pkw) process (s .pzd))
+telegramFor s Mirror net = telegramOf (s .node + 64) net
+telegramFor s (Broadcast selector mask1 mask2 process) net = telegramOf 32 (netOf (commandArea (s .pkw) selector mask1 mask2) (s .pkw) process (s .pzd))
+
+pub record BuildOutcome : Type 0 where
+  pub built : Built
+  pub out : List ℕ
+
+-- what a build that returns r leaves in the buffer
+pub record Builds (o : BuildOutcome) (r : Built) (bytes : List ℕ) : Type 0 where
+  pub answers : r ≡ o .built
+  pub bytes-are : bytes ≡ o .out
+
+-- a refusal writes nothing and reports 0
+abbrev pub unbuilt : BuildFault → List ℕ → BuildOutcome
+unbuilt fault out = record { built = record { answer = Refused fault; length = 0 }; out = out }
+
+-- only the telegram is written
+abbrev pub sent : List ℕ → List ℕ → BuildOutcome
+sent telegram out = record { built = record { answer = Done; length = length telegram }; out = telegram ++ drop (length telegram) out }
+
+unfoldable pub builtOf : Setup → Request → List ℕ → List ℕ → BuildOutcome
+builtOf s r net out =
+    firstOf
+    ((not (setupOk s), unbuilt BadSetup out)
+    ∷ (not (expressible s r net), unbuilt NotExpressible out)
+    ∷ (ltb (length out) 256, unbuilt ShortBuffer out)
+    ∷ [])
+    (sent (telegramFor s r net) out)

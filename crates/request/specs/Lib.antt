@@ -1,0 +1,2 @@
+-- What a master can ask.
+pub mod Request
