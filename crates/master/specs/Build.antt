@@ -17,14 +17,14 @@ use Rattle.net.specs.declared.Area.{Area}
 use Rattle.net.specs.Net.{netOf}
 use Rattle.net.specs.Telegram.{telegramOf}
 use Rattle.task.specs.Page.{nibbleOf}
-use Rattle.master.specs.declared.Request.{Request}
-use Rattle.master.specs.declared.Request.the-variants.{Task, Mirror, Broadcast}
+use Rattle.request.specs.declared.Request.{Request}
+use Rattle.request.specs.declared.Request.the-variants.{Task, Mirror, Broadcast}
+use Rattle.request.specs.Request.{expressible}
 use Rattle.master.specs.declared.BuildFault.{BuildFault}
 use Rattle.master.specs.declared.BuildFault.the-variants.{BadSetup, NotExpressible, ShortBuffer}
 use Rattle.master.specs.declared.BuildAnswer.{BuildAnswer}
 use Rattle.master.specs.declared.BuildAnswer.the-variants.{Done, Refused}
 use Rattle.master.specs.declared.Built.{Built}
-use Rattle.master.specs.Request.{expressible}
 
 abbrev pub buildNumber : BuildFault → ℕ
 buildNumber BadSetup = 30
@@ -47,6 +47,11 @@ unfoldable pub telegramFor : Setup → Request → List ℕ → List ℕ
 telegramFor s (Task id number index value process) net = telegramOf (s .node) (netOf (taskArea id number index value) (s .pkw) process (s .pzd))
 telegramFor s Mirror net = telegramOf (s .node + 64) net
 telegramFor s (Broadcast selector mask1 mask2 process) net = telegramOf 32 (netOf (commandArea (s .pkw) selector mask1 mask2) (s .pkw) process (s .pzd))
+
+-- a writer that returns n leaves the telegram at the buffer's start
+pub record Sends (telegram out : List ℕ) (n : ℕ) (bytes : List ℕ) : Type 0 where
+  pub long : n ≡ length telegram
+  pub there : bytes ≡ telegram ++ drop (length telegram) out
 
 pub record BuildOutcome : Type 0 where
   pub built : Built

@@ -7,6 +7,7 @@ use borrow.Author.Tests.{le-leb, le-ltb, ne-eqb}
 use lib.ListN.{length, take, drop, set, length-append}
 use lib.Seq.{sets, length-sets, length-take-le, take-all}
 use Rattle.words.specs.declared.Words.{Words}
+use Rattle.net.proofs.SealLaws.{length-telegram}
 use Rattle.store.proofs.StoreLaws.{sets-append, sets-there, sets-beyond}
 use Rattle.net.specs.declared.Area.{Area}
 use Rattle.net.specs.Telegram.{telegramOf, sealedOf, sealedLength}
@@ -37,6 +38,18 @@ pub area-all : (n : ℕ) (a : Area) → 2 ≤ n → areaWords n a ≡ a .pke ∷
 unfolding areaWords
 area-all n a h = take-all n (a .pke ∷ a .ind ∷ valueWords (n - 2) (a .value)) (omega (arith, length-value (n - 2) (a .value)))
 
+-- net bytes written at their place, made a telegram
+pub net-sealed : (out : List ℕ) (adr : ℕ) (net : List ℕ) {out′ : List ℕ} → 256 ≤ length out → 1 ≤ length net → length net ≤ 252
+    → out′ ≡ sets out 3 net
+    → (sealedLength out′ (length net) ≡ length net + 4) × (sealedOf out′ adr (length net) ≡ telegramOf adr net ++ drop (length net + 4) out)
+unfolding sealedOf sealedLength
+net-sealed out adr net {out′} room some fits written =
+    let long : length out′ ≡ length out = ap length written ∙ length-sets out 3 net in
+    let there : take (length net) (drop 3 out′) ≡ net = rw written (sets-there out 3 net (omega arith)) in
+    let beyond : drop (length net + 4) out′ ≡ drop (length net + 4) out = rw written (sets-beyond out 3 net (length net + 4) (omega arith)) in
+    let wide = le-leb 256 (length out′) (omega arith) in
+    rw (wide, le-leb 1 (length net) some, le-leb (length net) 252 fits) (refl, rw (there, beyond))
+
 module _ (a : Area) (n : ℕ) (w : Words) (pzd : ℕ) (few : pzd ≤ 4) where
   pub length-net : length (netOf a n w pzd) ≡ n * 2 + pzd * 2
   unfolding netOf
@@ -49,18 +62,12 @@ module _ (a : Area) (n : ℕ) (w : Words) (pzd : ℕ) (few : pzd ≤ 4) where
       → out₁ ≡ sets out 3 (bytesOf (areaWords n a)) → out₂ ≡ sets out₁ (n * 2 + 3) (bytesOf (take pzd (wordsOf w)))
       → (sealedLength out₂ (n * 2 + pzd * 2) ≡ length (netOf a n w pzd) + 4)
       × (sealedOf out₂ adr (n * 2 + pzd * 2) ≡ telegramOf adr (netOf a n w pzd) ++ drop (length (netOf a n w pzd) + 4) out)
-  unfolding sealedOf sealedLength netOf
+  unfolding netOf
   areas-sealed out adr {out₁} {out₂} room some short e f =
       let net = netOf a n w pzd in
       let place : n * 2 + 3 ≡ 3 + length (areaWords n a) * 2 = omega (arith, length-area n a) in
       let written : out₂ ≡ sets out 3 net = put-more out 3 (areaWords n a) (take pzd (wordsOf w)) e (rw place at f) in
-      let long : length out₂ ≡ length out = ap length written ∙ length-sets out 3 net in
-      let there : take (length net) (drop 3 out₂) ≡ net = rw written (sets-there out 3 net (omega (arith, length-net))) in
-      let beyond : drop (length net + 4) out₂ ≡ drop (length net + 4) out = rw written (sets-beyond out 3 net (length net + 4) (omega arith)) in
-      let wide = le-leb 256 (length out₂) (omega arith) in
-      let least = le-leb 1 (length net) (omega (arith, length-net)) in
-      let most = le-leb (length net) 252 (omega (arith, length-net)) in
-      rw (← length-net) (rw (wide, least, most) (refl, rw (there, beyond)))
+      rw (← length-net) (net-sealed out adr net room (omega (arith, length-net)) (omega (arith, length-net)) written)
 
   -- where the telegram can be sent, it is
   pub normal-sent : (out : List ℕ) (adr : ℕ) → 256 ≤ length out → 1 ≤ n + pzd → n ≤ 4
@@ -69,3 +76,14 @@ module _ (a : Area) (n : ℕ) (w : Words) (pzd : ℕ) (few : pzd ≤ 4) where
   unfolding normalOf normalLength
   normal-sent out adr room some short =
       rw (le-ltb 4 n short, le-ltb 4 pzd few, ne-eqb (n + pzd) 0 (λ e. omega arith), le-ltb (length out) 256 room) (refl, refl)
+
+  -- and its length is that of the telegram
+  pub telegram-sent : (out : List ℕ) (adr : ℕ) → 256 ≤ length out → 1 ≤ n + pzd → n ≤ 4
+      → (normalLength out a n w pzd ≡ length (telegramOf adr (netOf a n w pzd)))
+      × (normalOf out adr a n w pzd ≡ telegramOf adr (netOf a n w pzd) ++ drop (length (telegramOf adr (netOf a n w pzd))) out)
+  telegram-sent out adr room some short =
+      let net = netOf a n w pzd in
+      let m = normal-sent out adr room some short in (
+        m .0 ∙ sym (length-telegram adr net),
+        m .1 ∙ ap (λ (k : ℕ). telegramOf adr net ++ drop k out) (sym (length-telegram adr net)),
+      )

@@ -3,7 +3,8 @@
 -- unused process words 0. Mirror takes 1 to 252 net bytes; broadcast takes selector, masks and process words that are not
 -- void, unused ones 0.
 --     unusedZero pzd w        the words past the first pzd are 0
---     taskFits s id ..        a task that can be asked
+--     taskFits pkw id ..      a task that can be asked in an area of pkw words
+--     taskAskable s id ..     a task request that can be asked
 --     expressible s r net     a request that can be asked; net are the net bytes of a mirror
 use Prim.Native.Nat.{ℕ}
 use mathlib.Core.Bool.{Bool, true, false, not, _&&_, _||_, cond}
@@ -48,12 +49,15 @@ taskFits pkw id number index value =
     cond (eqb id 0) (eqb number 0 && eqb index 0 && eqb value 0)
     (not (eqb pkw 0) && not (ltb 31999 number) && not (ltb 254 index) && valueFits (taskOf id .act) (taskOf id .width) pkw value)
 
+abbrev pub taskAskable : Setup → ℕ → ℕ → ℕ → ℕ → Words → Bool
+taskAskable s id number index value process = taskFits (s .pkw) id number index value && unusedZero (s .pzd) process
+
 -- a fourth PKW word is no part of the request and is written 0
 abbrev pub commandOf : ℕ → ℕ → ℕ → Command
 commandOf selector mask1 mask2 = record { selector = selector; mask1 = mask1; mask2 = mask2; fourth = 0 }
 
 unfoldable pub expressible : Setup → Request → List ℕ → Bool
-expressible s (Task id number index value process) net = taskFits (s .pkw) id number index value && unusedZero (s .pzd) process
+expressible s (Task id number index value process) net = taskAskable s id number index value process
 expressible s Mirror net = not (ltb (length net) 1) && leb (length net) 252
 expressible s (Broadcast selector mask1 mask2 process) net =
     not (isVoid (commandOf selector mask1 mask2) (s .pkw) (s .pzd) (process .w1)) && unusedZero (s .pzd) process

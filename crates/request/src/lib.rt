@@ -1,6 +1,6 @@
 // What a master can ask (document 01, Answer number 31): tasks, mirrors and broadcasts.
 ghost use mathlib.Core.Path.{_≡_};
-ghost use Rattle.request.specs.Request.{usedOrZero, unusedZero, valueFits, taskFits, commandOf, expressible};
+ghost use Rattle.request.specs.Request.{usedOrZero, unusedZero, valueFits, taskFits, taskAskable, commandOf, expressible};
 ghost use mathlib.Core.Bool.{not, _&&_};
 ghost use Rattle.task.specs.declared.Act.the-variants.{Change};
 ghost use Rattle.broadcast.specs.Broadcast.{isVoid};
@@ -104,8 +104,8 @@ fn fits_task(pkw: u8, id: u8, number: u16, index: u8, value: u32) -> bool
 }
 
 // Whether a task request can be asked.
-fn can_ask(setup: Setup, id: u8, number: u16, index: u8, value: u32, process: Words) -> bool
-    ensures { λ r. ⌜ r ≡ (taskFits (setup .pkw) id number index value && unusedZero (setup .pzd) process) ⌝ }
+pub fn can_ask(setup: Setup, id: u8, number: u16, index: u8, value: u32, process: Words) -> bool
+    ensures { λ r. ⌜ r ≡ taskAskable setup id number index value process ⌝ }
 {
     if !fits_task(setup.pkw, id, number, index, value) {
         return false;

@@ -65,3 +65,12 @@ ok-of n p z a (inr (inr e)) c d = rw (le-ltb 31 n a, e, le-ltb 4 z c)
 pub configured-passes : (s : Setup) → Configured s → setupOk s ≡ true
 unfolding setupOk
 configured-passes s f = ok-of (s .node) (s .pkw) (s .pzd) (f .nodes) (f .areas) (f .process) (f .some)
+
+-- an area has at most four words
+pub area-few : (s : Setup) → Configured s → s .pkw ≤ 4
+area-few s f = go (f .areas)
+  where
+    go : (s .pkw ≡ 0) ⊎ ((s .pkw ≡ 3) ⊎ (s .pkw ≡ 4)) → s .pkw ≤ 4
+    go (inl e) = omega arith
+    go (inr (inl e)) = omega arith
+    go (inr (inr e)) = omega arith

@@ -1,6 +1,8 @@
 -- Which set-ups may be used (document 01, Answer numbers: 20, and 30 "set-up as 20").
 --     setupBad s      node over 31, PKW not 0, 3, 4, PZD over 4, or both 0
 --     setupOk s       none of these
+--     netBytes s      the net bytes of a telegram of the set-up: 2 × (PKW + PZD)
+use Prim.Native.Nat.{ℕ, _+_, _*_}
 use mathlib.Core.Bool.{Bool, not, _&&_, _||_}
 use lib.Dec.{ltb, eqb}
 use Rattle.setup.specs.declared.Setup.{Setup}
@@ -14,3 +16,6 @@ setupBad s =
 
 unfoldable pub setupOk : Setup → Bool
 setupOk s = not (setupBad s)
+
+abbrev pub netBytes : Setup → ℕ
+netBytes s = (s .pkw + s .pzd) * 2

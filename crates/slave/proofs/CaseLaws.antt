@@ -1,6 +1,5 @@
 -- Each case of the slave call by the tests that lead to it. Assumes nothing.
 use mathlib.Core.Path.{_≡_, refl, sym, ap, _∙_}
-use mathlib.Core.Logic.{_⊎_, inl, inr}
 use mathlib.Core.Bool.{Bool, true, false}
 use mathlib.Core.List.{List, _++_}
 use Prim.Native.Nat.{ℕ, _+_, _*_, _≤_, _<_}
@@ -9,13 +8,13 @@ use lib.ListN.{length, drop}
 use borrow.Author.Tests.{eq-eqb, ne-eqb}
 use Rattle.words.specs.declared.Words.{Words}
 use Rattle.setup.specs.declared.Setup.{Setup}
-use Rattle.setup.proofs.SetupLaws.{Configured}
+use Rattle.setup.specs.SetupRules.{netBytes}
+use Rattle.setup.proofs.SetupLaws.{Configured, area-few}
 use Rattle.net.specs.declared.Area.{Area}
 use Rattle.net.specs.Read.{processAt}
 use Rattle.net.specs.Telegram.{telegramOf}
 use Rattle.net.specs.Net.{netOf, normalOf, normalLength}
-use Rattle.net.proofs.SealLaws.{length-telegram}
-use Rattle.net.proofs.NetLaws.{normal-sent}
+use Rattle.net.proofs.NetLaws.{telegram-sent}
 use Rattle.frame.specs.declared.Decoded.{Decoded}
 use Rattle.frame.specs.Address.{decodedOf}
 use Rattle.opening.specs.declared.Opening.{Opening}
@@ -23,7 +22,7 @@ use Rattle.opening.specs.Answers.{openingOf}
 use Rattle.broadcast.specs.Broadcast.{isVoid, controlAfter}
 use Rattle.slave.specs.declared.Answer.the-variants.{Taken}
 use Rattle.slave.specs.declared.Refusal.the-variants.{OtherNode, OtherLength, VoidBroadcast}
-use Rattle.slave.specs.Slave.{netBytes, firstWord, commandAt, refusedServed, refusedOf, written, replyOf, normalOutcome, normalCase, broadcastCase, executeDecoded, executeOf, callOpened, callOf}
+use Rattle.slave.specs.Slave.{firstWord, commandAt, refusedServed, refusedOf, written, replyOf, normalOutcome, normalCase, broadcastCase, executeDecoded, executeOf, callOpened, callOf}
 
 module _ (n : ℕ) (s : Setup) (control : Words) (rx : List ℕ) where
   pub broadcast-void : n ≡ netBytes s → isVoid (commandAt rx (s .pkw)) (s .pkw) (s .pzd) (firstWord s rx) ≡ true
@@ -52,22 +51,13 @@ module _ (node n : ℕ) (s : Setup) (t vs : List ℕ) (control status : Words) (
   unfolding normalCase
   normal-replied e h = rw (eq-eqb _ _ e, eq-eqb _ _ h)
 
-at-most-four : (x : ℕ) → (x ≡ 0) ⊎ ((x ≡ 3) ⊎ (x ≡ 4)) → x ≤ 4
-at-most-four x (inl e) = omega arith
-at-most-four x (inr (inl e)) = omega arith
-at-most-four x (inr (inr e)) = omega arith
-
 -- the reply of a set-up that may be used, as it is written
 pub reply-sent : (s : Setup) (a : Area) (status : Words) (out : List ℕ) → Configured s → 256 ≤ length out
     → (normalLength out a (s .pkw) status (s .pzd) ≡ length (replyOf s a status))
     × (normalOf out (s .node) a (s .pkw) status (s .pzd) ≡ written out (replyOf s a status))
 unfolding replyOf
 reply-sent s a status out c room =
-    let net = netOf a (s .pkw) status (s .pzd) in
-    let m = normal-sent a (s .pkw) status (s .pzd) (c .process) out (s .node) room (omega (arith, c .some)) (at-most-four (s .pkw) (c .areas)) in (
-      m .0 ∙ sym (length-telegram (s .node) net),
-      m .1 ∙ ap (λ (k : ℕ). telegramOf (s .node) net ++ drop k out) (sym (length-telegram (s .node) net)),
-    )
+    telegram-sent a (s .pkw) status (s .pzd) (c .process) out (s .node) room (omega (arith, c .some)) (area-few s c)
 
 -- ---- the call
 

@@ -13,6 +13,7 @@ use Rattle.rows.specs.Rows.{firstOf}
 use Rattle.words.specs.Words.{wordAt}
 use Rattle.words.specs.declared.Words.{Words}
 use Rattle.setup.specs.declared.Setup.{Setup}
+use Rattle.setup.specs.SetupRules.{netBytes}
 use Rattle.frame.specs.Address.{decodedOf, faultNumber}
 use Rattle.frame.specs.declared.Fault.{Fault}
 use Rattle.frame.specs.declared.Decoded.{Decoded}
@@ -77,10 +78,6 @@ abbrev pub written : List ℕ → List ℕ → List ℕ
 written out telegram = telegram ++ drop (length telegram) out
 
 -- ---- normal
-
--- the net bytes of the set-up
-abbrev pub netBytes : Setup → ℕ
-netBytes s = (s .pkw + s .pzd) * 2
 
 -- the first process word
 abbrev pub firstWord : Setup → List ℕ → ℕ

@@ -1,0 +1,48 @@
+-- `master::write_broadcast` meets its contract. Assumes nothing.
+use mathlib.Core.Path.{_≡_, refl, sym, ap, _∙_}
+use mathlib.Core.Bool.{cond}
+use mathlib.Core.Logic.{⊎-elim}
+use Prim.Native.Nat.{_*_}
+use native.Mathlib.Omega.{arith}
+use borrow.Author.Tests.{eq-eqb, ne-eqb}
+use lib.Dec.{eqb}
+use Rattle.net.specs.declared.Area.{Area}
+use Rattle.net.proofs.NetLaws.{telegram-sent}
+use Rattle.setup.proofs.SetupLaws.{Configured, configured, area-few}
+use Rattle.master.specs.Build.{commandArea}
+use borrow.Author.Needs.{needs}
+use Rattle.master.proofs.write_broadcast.Statement.{statement}
+use Rattle.master.proofs.write_broadcast.Tie as tie
+use Rattle.master.proofs.write_broadcast.Reads as reads
+use Rattle.master.proofs.write_broadcast.Lts as lts
+use Rattle.net.proofs.write_normal.Reads as write-normal-reads
+
+-- src/lib.rt:79:9
+mul-value : tie.Need-mul-value
+mul-value c = search needs
+
+-- src/lib.rt:88:5
+write-normal-requires : tie.Need-write-normal-requires
+write-normal-requires c κs = search needs
+
+-- src/lib.rt:67:1
+same-length : tie.Need-same-length
+same-length c = search needs
+
+-- src/lib.rt:67:1
+returns : tie.Need-returns
+unfolding commandArea
+returns c =
+    let w = c .before .before in
+    let j = w .before .before in
+    let s = j .before .before .before in
+    let a = s .args in
+    let f = configured (a .setup) (s .pre .0) in
+    let e : j .if1 .value ≡ cond (eqb (a .setup .pkw) 4) (a .mask2 * 65536) (a .mask2) =
+    ⊎-elim (λ x. rw (eq-eqb _ _ (x .0 .taken)) (x .1)) (λ x. rw (ne-eqb _ _ (x .0 .left)) (x .1)) (j .if1 .came) in
+    let area : Area = record { pke = a .selector; ind = a .mask1; value = j .if1 .value } in
+    let m = telegram-sent area (a .setup .pkw) (a .process) (a .setup .pzd) (f .process) (a .out .now) 32 (s .pre .1) (omega (arith, f .some)) (area-few (a .setup) f) in
+    rw (← e) (record { long = w .write-normal .ensures .0 ∙ m .0; there = w .write-normal .ensures .1 ∙ m .1 })
+
+pub write-broadcast-spec : {M : Type 1} → statement M
+write-broadcast-spec = tie.close (tie.spec mul-value write-normal-requires same-length returns)

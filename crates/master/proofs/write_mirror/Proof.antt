@@ -1,0 +1,53 @@
+-- `master::write_mirror` meets its contract. Assumes nothing.
+use mathlib.Core.Path.{_≡_, refl, sym, ap, _∙_}
+use mathlib.Core.List.{_++_}
+use Prim.Native.Nat.{ℕ, _+_}
+use native.Mathlib.Omega.{arith}
+use lib.ListN.{drop}
+use Rattle.store.specs.Placed.{Placed}
+use Rattle.store.proofs.StoreLaws.{put-fits}
+use Rattle.net.specs.Telegram.{telegramOf}
+use Rattle.net.proofs.SealLaws.{length-telegram}
+use Rattle.net.proofs.NetLaws.{net-sealed}
+use borrow.Author.Needs.{needs}
+use Rattle.master.proofs.write_mirror.Statement.{statement}
+use Rattle.master.proofs.write_mirror.Tie as tie
+use Rattle.master.proofs.write_mirror.Reads as reads
+use Rattle.master.proofs.write_mirror.Lts as lts
+use Rattle.net.proofs.seal.Reads as seal-reads
+use Rattle.store.proofs.put.Reads as put-reads
+
+-- src/lib.rt:62:5
+put-requires : tie.Need-put-requires
+put-requires c κs = search needs
+
+-- src/lib.rt:63:20
+add-seal : tie.Need-add-seal
+add-seal c = search needs
+
+-- src/lib.rt:63:5
+seal-requires : tie.Need-seal-requires
+seal-requires c κs = search needs
+
+-- src/lib.rt:58:1
+same-length : tie.Need-same-length
+same-length c = search needs
+
+-- src/lib.rt:58:1
+returns : tie.Need-returns
+returns c =
+    let l = c .before .before in
+    let q = l .before .before .before .before in
+    let s = q .before .before .before .before in
+    let a = s .args in
+    let net = a .net .now in
+    let fit = put-fits (a .out .now) 3 net (omega arith) in
+    let m = net-sealed (a .out .now) (a .node + 64) net (s .pre .1) (s .pre .2) (s .pre .3) (q .put .ensures .1 ∙ ap (λ (x : Placed). x .bytes) fit) in
+    let n = length-telegram (a .node + 64) net in
+    record {
+      long = l .seal .ensures .0 ∙ m .0 ∙ sym n;
+      there = l .seal .ensures .1 ∙ m .1 ∙ ap (λ (k : ℕ). telegramOf (a .node + 64) net ++ drop k (a .out .now)) (sym n);
+    }
+
+pub write-mirror-spec : {M : Type 1} → statement M
+write-mirror-spec = tie.close (tie.spec put-requires add-seal seal-requires same-length returns)

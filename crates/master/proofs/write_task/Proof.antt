@@ -1,0 +1,75 @@
+-- `master::write_task` meets its contract. Assumes nothing.
+use mathlib.Core.Path.{_≡_, refl, sym, ap, _∙_}
+use Prim.Native.Nat.{_+_, _*_, _%_}
+use native.Mathlib.Omega.{arith}
+use Rattle.net.specs.declared.Area.{Area}
+use Rattle.net.proofs.NetLaws.{telegram-sent}
+use Rattle.setup.proofs.SetupLaws.{Configured, configured, area-few}
+use Rattle.task.proofs.PageLaws.{nibble-small}
+use Rattle.master.specs.Build.{taskArea}
+use borrow.Author.Needs.{needs}
+use Rattle.master.proofs.write_task.Statement.{statement}
+use Rattle.master.proofs.write_task.Tie as tie
+use Rattle.master.proofs.write_task.Reads as reads
+use Rattle.master.proofs.write_task.Lts as lts
+use Rattle.net.proofs.write_normal.Reads as write-normal-reads
+use Rattle.task.proofs.nibble_of.Reads as nibble-of-reads
+
+-- src/lib.rt:48:9
+nibble-of-requires : tie.Need-nibble-of-requires
+nibble-of-requires c κs = search needs
+
+-- src/lib.rt:50:14
+mul-t11 : tie.Need-mul-t11
+mul-t11 c = search needs
+
+-- src/lib.rt:50:14
+add-t13 : tie.Need-add-t13
+add-t13 c = search needs
+
+-- src/lib.rt:51:15
+cast-t14 : tie.Need-cast-t14
+cast-t14 c = search needs
+
+-- src/lib.rt:51:14
+mul-t15 : tie.Need-mul-t15
+mul-t15 c = omega (arith, c .nibble-of .ensures, nibble-small (c .before .before .args .number))
+
+-- src/lib.rt:51:14
+add-t17 : tie.Need-add-t17
+add-t17 c = omega (arith, c .nibble-of .ensures, nibble-small (c .before .before .args .number))
+
+-- src/lib.rt:54:5
+write-normal-requires : tie.Need-write-normal-requires
+write-normal-requires c κs = search needs
+
+-- src/lib.rt:36:1
+same-length : tie.Need-same-length
+same-length c = search needs
+
+-- src/lib.rt:36:1
+returns : tie.Need-returns
+unfolding taskArea
+returns c =
+    let w = c .before .before in
+    let n = w .before .before in
+    let s = n .before .before in
+    let a = s .args in
+    let f = configured (a .setup) (s .pre .0) in
+    let area : Area = record { pke = a .id * 4096 + a .number % 2000; ind = n .nibble-of .result * 4096 + a .index; value = a .value } in
+    let m = telegram-sent area (a .setup .pkw) (a .process) (a .setup .pzd) (f .process) (a .out .now) (a .setup .node) (s .pre .1) (omega (arith, f .some)) (area-few (a .setup) f) in
+    rw (← (n .nibble-of .ensures)) (record { long = w .write-normal .ensures .0 ∙ m .0; there = w .write-normal .ensures .1 ∙ m .1 })
+
+pub write-task-spec : {M : Type 1} → statement M
+write-task-spec =
+    tie.close
+    (tie.spec
+    nibble-of-requires
+    mul-t11
+    add-t13
+    cast-t14
+    mul-t15
+    add-t17
+    write-normal-requires
+    same-length
+    returns)

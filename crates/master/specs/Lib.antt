@@ -1,0 +1,2 @@
+-- What a master builds.
+pub mod Build

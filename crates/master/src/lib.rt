@@ -1,0 +1,142 @@
+// What a master builds (document 01, Answer numbers 30 to 32): the telegrams of tasks, mirrors and broadcasts.
+ghost use mathlib.Core.Path.{_≡_};
+ghost use mathlib.Core.Bool.{true};
+ghost use mathlib.Core.List.{_++_};
+ghost use Prim.Native.Nat.{_+_, _≤_};
+ghost use lib.ListN.{length, drop};
+ghost use Rattle.net.specs.Telegram.{telegramOf};
+ghost use Rattle.net.specs.Net.{netOf};
+ghost use Rattle.setup.specs.SetupRules.{setupOk};
+ghost use Rattle.request.specs.Request.{expressible};
+ghost use Rattle.master.specs.Build.{Sends, Builds, taskArea, commandArea, telegramFor, builtOf};
+use net::Area;
+use request::Request;
+use setup::Setup;
+use words::Words;
+
+// Why no telegram is built: 30, 31, 32.
+pub enum BuildFault {
+    BadSetup,
+    NotExpressible,
+    ShortBuffer,
+}
+
+pub enum BuildAnswer {
+    Done,
+    Refused(BuildFault),
+}
+
+// What a build returns: its answer, and the telegram's length, 0 in a refusal.
+pub struct Built {
+    pub answer: BuildAnswer,
+    pub length: usize,
+}
+
+// Writes the telegram of a task.
+fn write_task(
+    setup: Setup,
+    id: u8,
+    number: u16,
+    index: u8,
+    value: u32,
+    process: Words,
+    out: &mut [u8],
+) -> usize
+    requires { ⌜ (setupOk setup ≡ true) × (256 ≤ length (now out)) × (id ≤ 15) ⌝ }
+    ensures { λ r. ⌜ Sends (telegramOf (setup .node) (netOf (taskArea id number index value) (setup .pkw) process (setup .pzd))) (now (out .entry)) r (now (out .exit)) ⌝ }
+{
+    let nibble = task::nibble_of(number);
+    let area = Area {
+        pke: (id as u16) * 4096 + number % 2000,
+        ind: (nibble as u16) * 4096 + index as u16,
+        value,
+    };
+    net::write_normal(out, setup.node, area, setup.pkw, process, setup.pzd)
+}
+
+// Writes the telegram of a mirror.
+fn write_mirror(node: u8, net: &[u8], out: &mut [u8]) -> usize
+    requires { ⌜ (node ≤ 31) × (256 ≤ length (now out)) × (1 ≤ length (now net)) × (length (now net) ≤ 252) ⌝ }
+    ensures { λ r. ⌜ Sends (telegramOf (node + 64) (now (net .entry))) (now (out .entry)) r (now (out .exit)) ⌝ }
+{
+    store::put(out, 3, net);
+    net::seal(out, node + 64, net.len())
+}
+
+// Writes the telegram of a broadcast.
+fn write_broadcast(
+    setup: Setup,
+    selector: u16,
+    mask1: u16,
+    mask2: u16,
+    process: Words,
+    out: &mut [u8],
+) -> usize
+    requires { ⌜ (setupOk setup ≡ true) × (256 ≤ length (now out)) ⌝ }
+    ensures { λ r. ⌜ Sends (telegramOf 32 (netOf (commandArea (setup .pkw) selector mask1 mask2) (setup .pkw) process (setup .pzd))) (now (out .entry)) r (now (out .exit)) ⌝ }
+{
+    let value = if setup.pkw == 4 {
+        (mask2 as u32) * 65536
+    } else {
+        mask2 as u32
+    };
+    let area = Area {
+        pke: selector,
+        ind: mask1,
+        value,
+    };
+    net::write_normal(out, 32, area, setup.pkw, process, setup.pzd)
+}
+
+// Writes the telegram of a request that can be asked.
+fn write_request(setup: Setup, request: Request, net: &[u8], out: &mut [u8]) -> usize
+    requires { ⌜ (setupOk setup ≡ true) × (expressible setup request (now net) ≡ true) × (256 ≤ length (now out)) ⌝ }
+    ensures { λ r. ⌜ Sends (telegramFor setup request (now (net .entry))) (now (out .entry)) r (now (out .exit)) ⌝ }
+{
+    match request {
+        Request::Task {
+            id,
+            number,
+            index,
+            value,
+            process,
+        } => write_task(setup, id, number, index, value, process, out),
+        Request::Mirror => write_mirror(setup.node, net, out),
+        Request::Broadcast {
+            selector,
+            mask1,
+            mask2,
+            process,
+        } => write_broadcast(setup, selector, mask1, mask2, process, out),
+    }
+}
+
+// The build of a request's telegram; net are the net bytes of a mirror. A refusal writes nothing; else only the telegram is
+// written, at the buffer's start.
+pub fn build(setup: Setup, request: Request, net: &[u8], out: &mut [u8]) -> Built
+    ensures { λ r. ⌜ Builds (builtOf setup request (now (net .entry)) (now (out .entry))) r (now (out .exit)) ⌝ }
+{
+    if !setup::setup_ok(setup) {
+        return Built {
+            answer: BuildAnswer::Refused(BuildFault::BadSetup),
+            length: 0,
+        };
+    }
+    if !request::can_express(setup, request, net) {
+        return Built {
+            answer: BuildAnswer::Refused(BuildFault::NotExpressible),
+            length: 0,
+        };
+    }
+    if out.len() < 256 {
+        return Built {
+            answer: BuildAnswer::Refused(BuildFault::ShortBuffer),
+            length: 0,
+        };
+    }
+    let length = write_request(setup, request, net, out);
+    Built {
+        answer: BuildAnswer::Done,
+        length,
+    }
+}

@@ -1,0 +1,32 @@
+-- `reply::is_not_empty` meets its contract. Assumes nothing.
+use mathlib.Core.Path.{_≡_, refl, sym, ap, _∙_}
+use Rattle.rows.proofs.RowsLaws.{tests}
+use borrow.Author.Tests.{not-true, not-false, eq-eqb, ne-eqb, lt-ltb, le-ltb}
+use mathlib.Core.Bool.{not}
+use lib.Dec.{eqb}
+use Rattle.rows.proofs.BoolLaws.{cond-same}
+use Rattle.reply.specs.Reply.{notEmpty}
+use Rattle.reply.proofs.is_not_empty.Statement.{statement}
+use Rattle.reply.proofs.is_not_empty.Tie as tie
+use Rattle.reply.proofs.is_not_empty.Reads as reads
+use Rattle.reply.proofs.is_not_empty.Lts as lts
+
+-- src/lib.rt:98:9
+returns : tie.Need-returns
+unfolding notEmpty
+returns c = search tests
+
+-- src/lib.rt:101:9
+returns-2 : tie.Need-returns-2
+unfolding notEmpty
+returns-2 c = search tests
+
+-- src/lib.rt:94:1
+returns-3 : tie.Need-returns-3
+unfolding notEmpty
+returns-3 c =
+    let a = c .before .before .before .before .before .args .area in
+    rw (eq-eqb _ _ (c .before .before .before .if1 .left), eq-eqb _ _ (c .before .if2 .left)) (sym (cond-same (not (eqb (a .value) 0))))
+
+pub is-not-empty-spec : {M : Type 1} → statement M
+is-not-empty-spec = tie.close (tie.spec returns returns-2 returns-3)

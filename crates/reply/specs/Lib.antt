@@ -1,0 +1,2 @@
+-- How a master reads replies.
+pub mod Reply
