@@ -28,7 +28,7 @@ pub enum Opening {
 }
 
 // Both of two tests.
-fn both(a: bool, b: bool) -> bool
+fn hold_both(a: bool, b: bool) -> bool
     ensures { λ r. ⌜ r ≡ (a && b) ⌝ }
 {
     if a { b } else { false }
@@ -46,7 +46,7 @@ fn run_ok(inside: bool, e: Entry, values: &[u32], n: usize, place: usize) -> boo
     let mut all = inside;
     let mut i = 0;
     while i < n {
-        all = both(all, within(e, values[place + i]));
+        all = hold_both(all, within(e, values[place + i]));
         i += 1;
     }
     all

@@ -15,7 +15,7 @@ use Rattle.opening.proofs.run_ok.Tie as tie
 use Rattle.opening.proofs.run_ok.Reads as reads
 use Rattle.opening.proofs.run_ok.Lts as lts
 use Rattle.entry.proofs.within.Reads as within-reads
-use Rattle.opening.proofs.both.Reads as both-reads
+use Rattle.opening.proofs.hold_both.Reads as hold-both-reads
 
 abbrev Inv-loop : tie.InvT-loop
 Inv-loop inside e values n place all₀ i₀ all i =
@@ -59,8 +59,8 @@ within-requires : tie.Need-within-requires Inv-loop μ-loop
 within-requires c κs = search needs
 
 -- src/lib.rt:49:9
-both-requires : tie.Need-both-requires Inv-loop μ-loop
-both-requires c κs = search needs
+hold-both-requires : tie.Need-hold-both-requires Inv-loop μ-loop
+hold-both-requires c κs = search needs
 
 -- src/lib.rt:50:9
 add-i : tie.Need-add-i Inv-loop μ-loop
@@ -77,7 +77,7 @@ loop-again c =
     let t = w .before .before in
     let l = t .before in
     let a = l .before .before .before .args in
-    (omega arith, l .loop .inv .1 ∙ run-on (a .e) (now (a .values)) (a .n) (a .place) (l .loop .i) (l .loop .all) _ _ (t .loop-test .taken) (w .within .ensures) (c .both .ensures))
+    (omega arith, l .loop .inv .1 ∙ run-on (a .e) (now (a .values)) (a .n) (a .place) (l .loop .i) (l .loop .all) _ _ (t .loop-test .taken) (w .within .ensures) (c .hold-both .ensures))
 
 -- src/lib.rt:39:1
 returns-2 : tie.Need-returns-2 Inv-loop μ-loop
@@ -100,7 +100,7 @@ run-ok-spec =
     mul-within
     shared-slice-read-within
     within-requires
-    both-requires
+    hold-both-requires
     add-i
     loop-less
     loop-again
