@@ -1,16 +1,16 @@
 -- Laws of a record's places and limits, and worked numbers. Assumes nothing.
-use Prim.Native.Nat.{ℕ, _+_, _/_, _%_, _<_, _≤_}
-use mathlib.Core.Path.{_≡_, refl, sym, _∙_}
-use mathlib.Core.List.{List, [], _∷_, map}
+use Prim.Native.Nat.{ℕ, _+_, _/_, _%_, _≤_}
+use mathlib.Core.Path.{_≡_, refl}
+use mathlib.Core.List.{[], _∷_, map}
 use mathlib.Core.Bool.{Bool, true, false, cond, _&&_}
 use native.Mathlib.Omega.{arith}
 use lib.Dec.{eqb, leb, lit≤}
-use lib.IntN.{ℤ, pos, negsuc}
+use lib.IntN.{pos, negsuc}
 use borrow.Author.Tests.{le-leb, eq-eqb, ne-eqb, leb-true, eqb-true, eqb-false}
 use Rattle.rows.proofs.BoolLaws.{and-left, and-right, and-both}
 use Rattle.entry.specs.declared.Entry.{Entry}
 use Rattle.entry.specs.Fields.{entryOf, countOf}
-use Rattle.entry.specs.Limits.{signedOf, numberOf, atMost, fitsIn, isWithin, entryOk}
+use Rattle.entry.specs.Limits.{signedOf, atMost, fitsIn, isWithin, entryOk}
 
 -- the places of a record
 pub count-none : (e : Entry) → e .elements ≡ 0 → countOf e ≡ 1

@@ -1,21 +1,22 @@
--- Two's complement: how code that flips the bits of the upper half reads it, over the width. Assumes nothing.
-use Prim.Native.Nat.{ℕ, zero, suc, _-_, _^_, _<_, _≤_}
+-- Two's complement: how the code reads a double word, by flipping all bits of the upper half, and a word, by flipping its
+-- sign bit. Assumes nothing.
+use Prim.Native.Nat.{ℕ, zero, suc, _+_, _-_, _^_, _<_, _≤_}
 use mathlib.Core.Path.{_≡_, refl, sym, ap, _∙_}
+use mathlib.Core.Bool.{Bool, true, false}
 use native.Mathlib.Nat.{zero-add}
-use borrow.Author.Tests.{le-ltb}
+use native.Mathlib.Omega.{arith}
+use borrow.Author.Tests.{lt-ltb, le-ltb, ltb-true, ltb-false}
+use lib.Dec.{ltb, lit<}
+use lib.Bits.{bitXor, xor-block, xor-zero-r, xor-lt}
 use lib.IntN.{ℤ, pos, negsuc, _-ℤ_}
 use lib.Signed.{leZ}
-use mir.Syntax.{Width, w32}
+use mir.Syntax.{Width, w16, w32}
 use mir.Val.{toZ, ofZ, bits, hbits, SFits}
 use mir.ValLaws.{toZ-pos, toZ-ofZ}
 
 -- the upper half
 toZ-high : (w : Width) (x : ℕ) → 2 ^ hbits w ≤ x → toZ w x ≡ negsuc (2 ^ bits w - suc x)
 toZ-high w x h = simp (le-ltb _ _ h)
-
--- the lower half is the same at each width that holds it
-pub toZ-low : (w : Width) (x : ℕ) → x < 2 ^ 31 → x < 2 ^ hbits w → toZ w32 x ≡ toZ w x
-toZ-low w x g h = toZ-pos w32 x g ∙ sym (toZ-pos w x h)
 
 below-minus-one : (n : ℕ) → negsuc 0 -ℤ pos n ≡ negsuc n
 below-minus-one zero = refl
@@ -31,6 +32,51 @@ module _ (n : ℕ) (h : n < 2 ^ 31) where
 
   pub flip-is : (w : Width) (x : ℕ) → 2 ^ hbits w ≤ x → n ≡ 2 ^ bits w - suc x → toZ w32 (ofZ w32 (negsuc 0 -ℤ toZ w32 n)) ≡ toZ w x
   flip-is w x hx e = toZ-ofZ w32 (negsuc 0 -ℤ toZ w32 n) flip-fits ∙ flip ∙ ap negsuc e ∙ sym (toZ-high w x hx)
+
+-- a word whose sign bit is flipped
+flipped-low : (x : ℕ) → x < 32768 → bitXor x 32768 ≡ 32768 + x
+flipped-low x h = simp (zero-add, xor-zero-r) at (xor-block 15 0 1 x 0 h (lit< tt))
+
+flipped-high : (r : ℕ) → r < 32768 → bitXor (32768 + r) 32768 ≡ r
+flipped-high r h = simp (zero-add, xor-zero-r) at (xor-block 15 1 1 r 0 h (lit< tt))
+
+-- and less its weight
+less-weight-low : (x : ℕ) → x < 32768 → toZ w32 (bitXor x 32768) -ℤ pos 32768 ≡ toZ w16 x
+less-weight-low x h =
+    let e : 32768 + x - 32768 ≡ x = omega arith in
+    rw (flipped-low x h, toZ-pos w32 (32768 + x) (omega arith), le-ltb (32768 + x) 32768 (omega arith), e) (sym (toZ-pos w16 x h))
+
+less-weight-high : (r : ℕ) → r < 32768 → toZ w32 (bitXor (32768 + r) 32768) -ℤ pos 32768 ≡ toZ w16 (32768 + r)
+less-weight-high r h =
+    let e : 32768 - suc r ≡ 65536 - suc (32768 + r) = omega arith in
+    rw (flipped-high r h, toZ-pos w32 r (omega arith), lt-ltb r 32768 h, e) (sym (toZ-high w16 (32768 + r) (omega arith)))
+
+module _ (x : ℕ) (h : x < 65536) where
+  word-is : toZ w32 (bitXor x 32768) -ℤ pos 32768 ≡ toZ w16 x
+  word-is = go (ltb x 32768) refl
+    where
+      go : (b : Bool) → ltb x 32768 ≡ b → toZ w32 (bitXor x 32768) -ℤ pos 32768 ≡ toZ w16 x
+      go true e = less-weight-low x (ltb-true x 32768 e)
+      go false e =
+          let l = ltb-false x 32768 e in
+          let s : 32768 + (x - 32768) ≡ x = omega arith in
+          rw s at (less-weight-high (x - 32768) (omega arith))
+
+  word-fits : SFits w32 (toZ w16 x)
+  word-fits = go (ltb x 32768) refl
+    where
+      go : (b : Bool) → ltb x 32768 ≡ b → SFits w32 (toZ w16 x)
+      go true e = let l = ltb-true x 32768 e in rw (toZ-pos w16 x l) (record { sfits = omega arith })
+      go false e = rw (toZ-high w16 x (ltb-false x 32768 e)) (record { sfits = omega arith })
+
+  pub flip-word-fits : SFits w32 (pos (bitXor x 32768))
+  flip-word-fits = record { sfits = omega (arith, xor-lt 16 x 32768 h (lit< tt)) }
+
+  pub word-fits-less : SFits w32 (toZ w32 (bitXor x 32768) -ℤ pos 32768)
+  word-fits-less = rw word-is word-fits
+
+  pub word-back : toZ w32 (ofZ w32 (toZ w32 (bitXor x 32768) -ℤ pos 32768)) ≡ toZ w16 x
+  word-back = toZ-ofZ w32 (toZ w32 (bitXor x 32768) -ℤ pos 32768) word-fits-less ∙ word-is
 
 -- a comparison of two results of calls
 pub compared : (x y x′ y′ : ℤ) → SFits w32 x → SFits w32 y → x ≡ x′ → y ≡ y′ → leZ (toZ w32 (ofZ w32 x)) (toZ w32 (ofZ w32 y)) ≡ leZ x′ y′

@@ -6,7 +6,7 @@
 --     isWithin e v                   v is within e's limits
 --     entryOk e                      e's number, elements, spare bits and limits keep the rules
 use Prim.Native.Nat.{ℕ, _%_}
-use mathlib.Core.Bool.{Bool, true, false, cond, _&&_}
+use mathlib.Core.Bool.{Bool, true, false, _&&_}
 use lib.Dec.{leb, eqb}
 use lib.IntN.{ℤ, pos}
 use lib.Signed.{leZ}

@@ -41,7 +41,7 @@ pub fn count_places(e: Entry) -> usize
     }
 }
 
-// A word or a double word as a signed number, two's complement.
+// A word or a double word as a signed number, two's complement. Of a word, the sign bit is flipped and its weight taken off.
 fn to_signed(double: bool, x: u32) -> i32
     ensures { λ r. ⌜ r ≡ signedOf double x ⌝ }
 {
@@ -51,11 +51,7 @@ fn to_signed(double: bool, x: u32) -> i32
         }
         return -1 - ((4294967295 - x) as i32);
     }
-    let low = x % 65536;
-    if low < 32768 {
-        return low as i32;
-    }
-    -1 - ((65535 - low) as i32)
+    ((x % 65536 ^ 32768) as i32) - 32768
 }
 
 // Whether a is at most b, as the parameter's kind is compared.

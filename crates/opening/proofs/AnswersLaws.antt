@@ -9,7 +9,7 @@ use lib.ListN.{length}
 use lib.Dec.{eqb, leb, ltb}
 use Rattle.rows.specs.Rows.{firstOf}
 use Rattle.rows.proofs.RowsLaws.{Chosen, first-chosen, chosen-first}
-use Rattle.rows.proofs.BoolLaws.{and-left, and-right, and-both}
+use Rattle.rows.proofs.BoolLaws.{and-left, and-right}
 use Rattle.setup.specs.declared.Setup.{Setup}
 use Rattle.setup.specs.SetupRules.{setupOk}
 use Rattle.table.specs.Records.{entries, countsOf}

@@ -1,21 +1,24 @@
 -- What a passing opening check tells of a record that a search found: what a slave needs before it acts. Assumes nothing.
 use Prim.Native.Nat.{ℕ, zero, suc, _+_, _/_, _<_, _≤_}
-use mathlib.Core.Path.{_≡_, refl, sym, _∙_}
-use mathlib.Core.List.{List, [], _∷_}
-use mathlib.Core.Bool.{Bool, true, _&&_}
+use mathlib.Core.Path.{_≡_, refl, _∙_}
+use mathlib.Core.List.{List}
+use mathlib.Core.Bool.{true}
 use native.Mathlib.Omega.{arith}
 use native.Mathlib.Nat.{add-zero, zero-add}
+use native.Mathlib.Numerals.{add-one}
+use borrow.Author.Tests.{leb-true}
+use lib.Dec.{leb}
 use lib.ListN.{length, getD}
 use Rattle.rows.proofs.BoolLaws.{and-left, and-right}
 use Rattle.setup.specs.declared.Setup.{Setup}
 use Rattle.entry.specs.Fields.{countOf}
 use Rattle.entry.specs.Limits.{isWithin, entryOk}
 use Rattle.entry.specs.declared.Entry.{Entry}
-use Rattle.table.specs.Records.{entryAt, entriesFrom, entries, findIn, countsOf, firstPlace}
+use Rattle.table.specs.Records.{entryAt, entriesFrom, entries, findFrom, findIn, countsOf, firstPlace}
 use Rattle.table.specs.declared.Found.the-variants.{At}
-use Rattle.table.proofs.RecordsLaws.{found-below}
+use Rattle.table.proofs.RecordsLaws.{found-below, find-here, find-on}
 use Rattle.opening.specs.declared.Opening.the-variants.{Passed}
-use Rattle.opening.specs.Rules.{eachOk, runOk, runsOk}
+use Rattle.opening.specs.Rules.{risingFrom, eachOk, runOk, runsOk}
 use Rattle.opening.specs.Answers.{openingOf}
 use Rattle.opening.proofs.AnswersLaws.{opened}
 use Rattle.opening.proofs.KeptLaws.{place-below}
@@ -85,3 +88,40 @@ found-placed s t vs room number k e f =
 pub found-number : (t : List ℕ) (number k : ℕ) → findIn t number ≡ At k → entryAt t k .number ≡ number
 unfolding entries
 found-number t number k f = found-below number t (length t / 12) 0 k f .is
+
+-- numbers rise, so no number is under the least that may come
+rising-least : (t : List ℕ) (n j m least : ℕ) → risingFrom least (entriesFrom t n j) ≡ true → m < n → least ≤ entryAt t (j + m) .number
+unfolding risingFrom entriesFrom
+rising-least t zero j m least h b = absurd (omega arith)
+rising-least t (suc n) j zero least h b =
+    let e = entryAt t j .number in
+    let l = leb-true least e (and-left (leb least e) (risingFrom (e + 1) (entriesFrom t n (suc j))) h) in
+    rw add-zero l
+rising-least t (suc n) j (suc m) least h b =
+    let e = entryAt t j .number in
+    let p = leb least e in
+    let q = risingFrom (e + 1) (entriesFrom t n (suc j)) in
+    let l = leb-true least e (and-left p q h) in
+    let s : j + suc m ≡ suc j + m = omega arith in
+    let r = rising-least t n (suc j) m (e + 1) (and-right p q h) (omega arith) in
+    rw s (omega arith)
+
+-- and the search finds each by its number
+find-rising : (t : List ℕ) (n j m least : ℕ) → risingFrom least (entriesFrom t n j) ≡ true → m < n
+    → findFrom (entryAt t (j + m) .number) (entriesFrom t n j) j ≡ At (j + m)
+unfolding risingFrom entriesFrom
+find-rising t zero j m least h b = absurd (omega arith)
+find-rising t (suc n) j zero least h b = simp add-zero (find-here (entryAt t j .number) (entryAt t j) (entriesFrom t n (suc j)) j refl)
+find-rising t (suc n) j (suc m) least h b =
+    let e = entryAt t j .number in
+    let q = and-right (leb least e) (risingFrom (e + 1) (entriesFrom t n (suc j))) h in
+    let s : j + suc m ≡ suc j + m = omega arith in
+    let r = rising-least t n (suc j) m (e + 1) q (omega arith) in
+    let on = find-on (entryAt t (suc j + m) .number) (entryAt t j) (entriesFrom t n (suc j)) j (λ x. omega arith) in
+    rw s (on ∙ rw add-one (find-rising t n (suc j) m (e + 1) q (omega arith)))
+
+-- of a table that passed, each record is found by its number
+pub record-found : (s : Setup) (t vs : List ℕ) (room k : ℕ) → openingOf s t vs room ≡ Passed → k < length t / 12
+    → findIn t (entryAt t k .number) ≡ At k
+unfolding entries
+record-found s t vs room k e b = simp zero-add at (find-rising t (length t / 12) 0 k 0 (opened s t vs room e .rising) b)

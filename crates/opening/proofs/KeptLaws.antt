@@ -1,8 +1,8 @@
 -- A change of one place to a value within its record's limits keeps the opening check passing. Assumes nothing.
-use Prim.Native.Nat.{ℕ, zero, suc, _+_, _-_, _*_, _/_, _<_, _≤_}
-use mathlib.Core.Path.{_≡_, refl, sym, ap, _∙_}
+use Prim.Native.Nat.{ℕ, zero, suc, _+_, _-_, _/_, _<_, _≤_}
+use mathlib.Core.Path.{_≡_, refl, sym, _∙_}
 use mathlib.Core.List.{List, [], _∷_}
-use mathlib.Core.Bool.{Bool, true, _&&_}
+use mathlib.Core.Bool.{true}
 use native.Mathlib.Omega.{arith}
 use native.Mathlib.Decide.{ℕ-discrete}
 use native.Mathlib.Nat.{add-zero}
@@ -18,7 +18,7 @@ use Rattle.table.proofs.RecordsLaws.{places-fit}
 use Rattle.opening.specs.declared.Opening.the-variants.{Passed}
 use Rattle.opening.specs.Rules.{runOk, runsOk}
 use Rattle.opening.specs.Answers.{openingOf}
-use Rattle.opening.proofs.AnswersLaws.{Opened, opened, opens}
+use Rattle.opening.proofs.AnswersLaws.{opened, opens}
 
 -- what a value at place q has to keep, of records whose places start at p
 abbrev Allows : List Entry → ℕ → ℕ → ℕ → Type 0

@@ -3,3 +3,4 @@ pub mod PassLaws
 pub mod AnswersLaws
 pub mod KeptLaws
 pub mod FoundLaws
+pub mod KnownOpenings

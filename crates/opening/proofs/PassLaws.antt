@@ -1,8 +1,8 @@
 -- The one pass over table and values, as the code goes, and that it gives the answers 21 and 22. Assumes nothing.
-use Prim.Native.Nat.{ℕ, zero, suc, _+_, _-_, _*_, _/_, _%_, _<_, _≤_}
-use mathlib.Core.Path.{_≡_, refl, sym, ap, _∙_}
+use Prim.Native.Nat.{ℕ, suc, _+_, _-_, _*_, _/_, _%_, _<_, _≤_}
+use mathlib.Core.Path.{_≡_, refl, sym, _∙_}
 use mathlib.Core.List.{List, [], _∷_}
-use mathlib.Core.Bool.{Bool, true, false, not, cond, _&&_, and-true}
+use mathlib.Core.Bool.{Bool, true, false, not, cond, _&&_, and-true, and-false, and-assoc}
 use native.Mathlib.Omega.{arith}
 use native.Mathlib.Nat.{add-zero, zero-add}
 use borrow.Author.Tests.{le-leb, lt-leb, eq-eqb, ne-eqb, eqb-true}
@@ -15,7 +15,7 @@ use Rattle.table.specs.Records.{entries, entriesFrom, countsOf}
 use Rattle.opening.specs.declared.Opening.{Opening}
 use Rattle.opening.specs.declared.Opening.the-variants.{Passed, Refused}
 use Rattle.opening.specs.declared.OpeningFault.the-variants.{BadTable, BadValues}
-use Rattle.opening.specs.Rules.{risingFrom, eachOk, runOk, runsOk, tableOk, valuesOk}
+use Rattle.opening.specs.Rules.{risingFrom, eachOk, runOk, runsOk}
 use Rattle.opening.specs.Answers.{contentOf}
 
 -- the step of the loop over a record's values
@@ -26,18 +26,21 @@ module _ (e : Entry) (vs : List ℕ) (n place i : ℕ) where
       let z : n - i ≡ 0 = omega arith in
       rw z
 
-  run-step : i < n → runOk e vs (n - i) (place + i) ≡ (isWithin e (getD vs (place + i) 0) && runOk e vs (n - (i + 1)) (place + (i + 1)))
+  -- s and b are what the code has for the test of this value, and for all so far
+  pub run-on : (a s b : Bool) → i < n → s ≡ isWithin e (getD vs (place + i) 0) → b ≡ (a && s)
+      → (a && runOk e vs (n - i) (place + i)) ≡ (b && runOk e vs (n - (i + 1)) (place + (i + 1)))
   unfolding runOk
-  run-step h =
+  run-on a s b h p q =
       let z : n - i ≡ suc (n - (i + 1)) = omega arith in
-      let q : place + (i + 1) ≡ suc (place + i) = omega arith in
-      rw (z, q)
+      let y : place + (i + 1) ≡ suc (place + i) = omega arith in
+      rw (q, p, z, y) (sym (and-assoc a (isWithin e (getD vs (place + i) 0)) (runOk e vs (n - (i + 1)) (suc (place + i)))))
 
-  pub run-on : i < n → isWithin e (getD vs (place + i) 0) ≡ true → runOk e vs (n - i) (place + i) ≡ runOk e vs (n - (i + 1)) (place + (i + 1))
-  run-on h l = run-step h ∙ rw l
+-- what the loop over a record's values leaves
+pub run-all : (a b l r : Bool) → l ≡ true → (a && r) ≡ (b && true) → b ≡ (a && l && r)
+run-all a b l r h e = rw (h, and-true a) (sym (e ∙ and-true b))
 
-  pub run-not : i < n → isWithin e (getD vs (place + i) 0) ≡ false → runOk e vs (n - i) (place + i) ≡ false
-  run-not h l = run-step h ∙ rw l
+pub run-short : (a l r : Bool) → l ≡ false → false ≡ (a && l && r)
+run-short a l r h = rw (h, and-false a)
 
 -- the answer by two tests
 abbrev pub answerOf : Bool → Bool → Opening

@@ -27,25 +27,29 @@ pub enum Opening {
     Refused(OpeningFault),
 }
 
-// Whether all was inside so far, and n values from a place on are there and within one record's limits.
+// Both of two tests.
+fn hold_both(a: bool, b: bool) -> bool
+    ensures { λ r. ⌜ r ≡ (a && b) ⌝ }
+{
+    if a { b } else { false }
+}
+
+// Whether all was inside so far, and n values from a place on are there and within one record's limits. The loop has no other
+// way out, so that it can be compiled to look at several values at once.
 fn run_ok(inside: bool, e: Entry, values: &[u32], n: usize, place: usize) -> bool
     requires { ⌜ (place ≤ 1000000) × (n ≤ 1000000) ⌝ }
     ensures { λ r. ⌜ r ≡ (inside && leb (place + n) (length (now (values .entry))) && runOk e (now (values .entry)) n place) ⌝ }
 {
-    if !inside {
-        return false;
-    }
     if values.len() < place + n {
         return false;
     }
+    let mut all = inside;
     let mut i = 0;
     while i < n {
-        if !within(e, values[place + i]) {
-            return false;
-        }
+        all = hold_both(all, within(e, values[place + i]));
         i += 1;
     }
-    true
+    all
 }
 
 // The n records of a table, and the values that go with them. A record that breaks a rule ends the pass; a value outside its

@@ -1,4 +1,5 @@
-// Runs the opening check and the search, and writes a line for each: a label, and document 01's number, 0 where nothing is refused.
+// Runs the opening check and writes a line for each group of cases: a label, and document 01's number of each case, 0 where
+// nothing is refused.
 // Kinds of a parameter: 0 word, 2 signed word, 4 double, 6 signed double; 1 more where it is writable.
 use opening::Opening;
 use opening::OpeningFault;
@@ -21,11 +22,9 @@ fn answer_number(answer: Opening) -> u64 {
     }
 }
 
-fn show(label: &[u8], number: u64) {
-    io::write_all(1, label);
+fn show(answer: Opening) {
     io::write_all(1, b" ");
-    io::print_decimal(1, number);
-    io::write_all(1, b"\n");
+    io::print_decimal(1, answer_number(answer));
 }
 
 fn usual() -> Setup {
@@ -66,34 +65,34 @@ fn put_record(t: &mut [u8], k: usize, first: u32, minimum: u32, maximum: u32) {
 }
 
 // One set-up, no record, no value.
-fn configure(label: &[u8], node: u8, pkw: u8, pzd: u8) {
+fn configure(node: u8, pkw: u8, pzd: u8) {
     let values = [0u32; 1];
     let answer = open(Setup { node, pkw, pzd }, b"", &values[..0], 256);
-    show(label, answer_number(answer));
+    show(answer);
 }
 
 // One record of a kind, with its limits and its value.
-fn limit(label: &[u8], kind: u16, minimum: u32, maximum: u32, value: u32) {
+fn limit(kind: u16, minimum: u32, maximum: u32, value: u32) {
     let mut t = [0u8; 12];
     put_record(&mut t, 0, head(1082, kind, 0), minimum, maximum);
     let values = [value; 1];
     let answer = open(usual(), &t, &values, 256);
-    show(label, answer_number(answer));
+    show(answer);
 }
 
 // Two records, 0 to 10 the first, and two values, 0 the second; a buffer of `room` bytes.
-fn pair(label: &[u8], first: u32, second: u32, value: u32, room: usize) {
+fn pair(first: u32, second: u32, value: u32, room: usize) {
     let mut t = [0u8; 24];
     put_record(&mut t, 0, first, 0, 10);
     put_record(&mut t, 1, second, 0, 10);
     let mut values = [0u32; 2];
     values[0] = value;
     let answer = open(usual(), &t, &values, room);
-    show(label, answer_number(answer));
+    show(answer);
 }
 
 // The first bytes of a table, the first of the values.
-fn check(label: &[u8], t: &[u8], values: &[u32], length: usize, count: usize) {
+fn check(t: &[u8], values: &[u32], length: usize, count: usize) {
     if t.len() < length {
         return;
     }
@@ -101,7 +100,7 @@ fn check(label: &[u8], t: &[u8], values: &[u32], length: usize, count: usize) {
         return;
     }
     let answer = open(usual(), &t[..length], &values[..count], 256);
-    show(label, answer_number(answer));
+    show(answer);
 }
 
 // Records 0 to n - 1, each with so many elements, and record n with others.
@@ -115,128 +114,113 @@ fn put_records(t: &mut [u8], n: u16, elements: u16, last: u16) {
 fn main() {
     run_setups();
     run_words();
+    run_word_ends();
     run_doubles();
-    run_pairs();
+    run_rules();
+    run_order();
     run_lengths();
     run_counts();
 }
 
+// Node, PKW words, PZD words.
 fn run_setups() {
-    configure(b"set-up 31 4 4", 31, 4, 4);
-    configure(b"set-up 0 3 0", 0, 3, 0);
-    configure(b"set-up 0 0 1", 0, 0, 1);
-    configure(b"set-up 32 4 4", 32, 4, 4);
-    configure(b"set-up 0 0 0", 0, 0, 0);
-    configure(b"set-up 0 1 1", 0, 1, 1);
-    configure(b"set-up 0 2 1", 0, 2, 1);
-    configure(b"set-up 0 5 1", 0, 5, 1);
-    configure(b"set-up 0 4 5", 0, 4, 5);
+    io::write_all(1, b"set-ups:");
+    configure(31, 4, 4);
+    configure(0, 3, 0);
+    configure(0, 0, 1);
+    configure(32, 4, 4);
+    configure(0, 0, 0);
+    configure(0, 1, 1);
+    configure(0, 2, 1);
+    configure(0, 5, 1);
+    configure(0, 4, 5);
 }
 
+// A signed word from -100 to 100: -100, -101, -1, 100, 101, and -100 with another upper half; then a limit with another.
 fn run_words() {
-    limit(b"word -100..100: -100", 2, 0xff9c, 100, 0xff9c);
-    limit(b"word -100..100: -101", 2, 0xff9c, 100, 0xff9b);
-    limit(b"word -100..100: -1", 2, 0xff9c, 100, 0xffff);
-    limit(b"word -100..100: 101", 2, 0xff9c, 100, 101);
-    limit(b"word 8000..7FFF signed: 8000", 2, 0x8000, 0x7fff, 0x8000);
-    limit(b"word 8000..7FFF signed: 7FFF", 2, 0x8000, 0x7fff, 0x7fff);
-    limit(b"word 8000..7FFF unsigned", 0, 0x8000, 0x7fff, 0x8000);
-    limit(b"word 7FFF..8000 signed", 2, 0x7fff, 0x8000, 0x7fff);
-    limit(b"word 7FFF..8000 unsigned: 8000", 0, 0x7fff, 0x8000, 0x8000);
-    limit(b"word 0..FFFF: FFFF", 0, 0, 0xffff, 0xffff);
-    limit(b"word 0..FFFF: 10000", 0, 0, 0xffff, 0x10000);
-    limit(b"word -100..100: FFFFFF9C", 2, 0xff9c, 100, 0xffff_ff9c);
-    limit(b"word minimum FFFFFF9C", 2, 0xffff_ff9c, 100, 0);
-    limit(b"word maximum 10064", 2, 0xff9c, 0x1_0064, 0);
+    io::write_all(1, b"\nsigned words:");
+    limit(2, 0xff9c, 100, 0xff9c);
+    limit(2, 0xff9c, 100, 0xff9b);
+    limit(2, 0xff9c, 100, 0xffff);
+    limit(2, 0xff9c, 100, 100);
+    limit(2, 0xff9c, 100, 101);
+    limit(2, 0xff9c, 100, 0xffff_ff9c);
+    limit(2, 0xffff_ff9c, 100, 0);
+    limit(2, 0xff9c, 0x1_0064, 0);
 }
 
+// The ends of 16 bits, signed and unsigned.
+fn run_word_ends() {
+    io::write_all(1, b"\nword ends:");
+    limit(2, 0x8000, 0x7fff, 0x8000);
+    limit(2, 0x8000, 0x7fff, 0x7fff);
+    limit(0, 0x8000, 0x7fff, 0x8000);
+    limit(2, 0x7fff, 0x8000, 0x8000);
+    limit(0, 0x7fff, 0x8000, 0x8000);
+    limit(0, 0, 0xffff, 0xffff);
+    limit(0, 0, 0xffff, 0x1_0000);
+}
+
+// A signed double from -100 to 0: -100, -101, -1, 0, 1; then the ends of 32 bits, signed and unsigned.
 fn run_doubles() {
-    limit(b"double -100..0: -100", 6, 0xffff_ff9c, 0, 0xffff_ff9c);
-    limit(b"double -100..0: -101", 6, 0xffff_ff9c, 0, 0xffff_ff9b);
-    limit(b"double -100..0: -1", 6, 0xffff_ff9c, 0, 0xffff_ffff);
-    limit(b"double -100..0: 1", 6, 0xffff_ff9c, 0, 1);
-    limit(
-        b"double 80000000..7FFFFFFF signed: 80000000",
-        6,
-        0x8000_0000,
-        0x7fff_ffff,
-        0x8000_0000,
-    );
-    limit(
-        b"double 80000000..7FFFFFFF signed: 7FFFFFFF",
-        6,
-        0x8000_0000,
-        0x7fff_ffff,
-        0x7fff_ffff,
-    );
-    limit(
-        b"double 80000000..7FFFFFFF unsigned",
-        4,
-        0x8000_0000,
-        0x7fff_ffff,
-        0x8000_0000,
-    );
-    limit(
-        b"double 7FFFFFFF..80000000 unsigned: 80000000",
-        4,
-        0x7fff_ffff,
-        0x8000_0000,
-        0x8000_0000,
-    );
-    limit(
-        b"double 0..FFFFFFFF: FFFFFFFF",
-        4,
-        0,
-        0xffff_ffff,
-        0xffff_ffff,
-    );
+    io::write_all(1, b"\ndoubles:");
+    limit(6, 0xffff_ff9c, 0, 0xffff_ff9c);
+    limit(6, 0xffff_ff9c, 0, 0xffff_ff9b);
+    limit(6, 0xffff_ff9c, 0, 0xffff_ffff);
+    limit(6, 0xffff_ff9c, 0, 0);
+    limit(6, 0xffff_ff9c, 0, 1);
+    limit(6, 0x8000_0000, 0x7fff_ffff, 0x8000_0000);
+    limit(6, 0x8000_0000, 0x7fff_ffff, 0x7fff_ffff);
+    limit(4, 0x8000_0000, 0x7fff_ffff, 0x8000_0000);
+    limit(4, 0x7fff_ffff, 0x8000_0000, 0x8000_0000);
+    limit(4, 0, 0xffff_ffff, 0xffff_ffff);
 }
 
-fn run_pairs() {
-    pair(b"two records", head(1, 1, 0), head(2, 1, 0), 10, 256);
-    pair(b"buffer 255", head(1, 1, 0), head(2, 1, 0), 10, 255);
-    pair(
-        b"value over its maximum",
-        head(1, 1, 0),
-        head(2, 1, 0),
-        11,
-        255,
-    );
-    pair(
-        b"value and table bad",
-        head(1, 1, 0),
-        head(1, 1, 0),
-        11,
-        255,
-    );
-    pair(b"equal numbers", head(1, 1, 0), head(1, 1, 0), 10, 256);
-    pair(b"falling numbers", head(2, 1, 0), head(1, 1, 0), 10, 256);
-    pair(b"number 31999", head(1, 1, 0), head(31999, 1, 0), 10, 256);
-    pair(b"number 32000", head(1, 1, 0), head(32000, 1, 0), 10, 256);
-    pair(b"spare bit", head(1, 1, 0), 262145, 10, 256);
-    pair(b"elements 255", head(1, 1, 0), head(2, 1, 255), 10, 256);
+// Rising, equal and falling numbers, numbers 31999 and 32000, elements 255, a spare bit.
+fn run_rules() {
+    io::write_all(1, b"\nrules:");
+    pair(head(1, 1, 0), head(2, 1, 0), 10, 256);
+    pair(head(1, 1, 0), head(1, 1, 0), 10, 256);
+    pair(head(2, 1, 0), head(1, 1, 0), 10, 256);
+    pair(head(1, 1, 0), head(31999, 1, 0), 10, 256);
+    pair(head(1, 1, 0), head(32000, 1, 0), 10, 256);
+    pair(head(1, 1, 0), head(2, 1, 255), 10, 256);
+    pair(head(1, 1, 0), 262145, 10, 256);
 }
 
+// A short buffer; with a bad value; with a bad table after a bad value.
+fn run_order() {
+    io::write_all(1, b"\norder:");
+    pair(head(1, 1, 0), head(2, 1, 0), 10, 255);
+    pair(head(1, 1, 0), head(2, 1, 0), 11, 255);
+    pair(head(1, 1, 0), head(1, 1, 0), 11, 255);
+}
+
+// No record, with no value and with one; one record; 11 and 13 bytes.
 fn run_lengths() {
+    io::write_all(1, b"\nlengths:");
     let t = [0u8; 24];
     let values = [0u32; 2];
-    check(b"no record", &t, &values, 0, 0);
-    check(b"no record, one value", &t, &values, 0, 1);
-    check(b"one record", &t, &values, 12, 1);
-    check(b"11 bytes", &t, &values, 11, 1);
-    check(b"13 bytes", &t, &values, 13, 1);
+    check(&t, &values, 0, 0);
+    check(&t, &values, 0, 1);
+    check(&t, &values, 12, 1);
+    check(&t, &values, 11, 1);
+    check(&t, &values, 13, 1);
 }
 
+// 512 and 513 records; 4096 places with 4096, 4095 and 4097 values; 4097 places.
 fn run_counts() {
+    io::write_all(1, b"\ncounts:");
     let mut t = [0u8; 6156];
     let values = [0u32; 4098];
     put_records(&mut t, 512, 0, 0);
-    check(b"512 records", &t, &values, 6144, 512);
-    check(b"513 records", &t, &values, 6156, 513);
+    check(&t, &values, 6144, 512);
+    check(&t, &values, 6156, 513);
     put_records(&mut t, 16, 254, 32);
-    check(b"4096 places", &t, &values, 204, 4096);
-    check(b"one value short", &t, &values, 204, 4095);
-    check(b"one value long", &t, &values, 204, 4097);
+    check(&t, &values, 204, 4096);
+    check(&t, &values, 204, 4095);
+    check(&t, &values, 204, 4097);
     put_records(&mut t, 16, 254, 33);
-    check(b"4097 places", &t, &values, 204, 4097);
+    check(&t, &values, 204, 4097);
+    io::write_all(1, b"\n");
 }

@@ -1,5 +1,5 @@
 -- Laws of the records of a table. Assumes nothing.
-use Prim.Native.Nat.{ℕ, zero, suc, _+_, _-_, _*_, _/_, _%_, _<_, _≤_}
+use Prim.Native.Nat.{ℕ, zero, suc, _+_, _-_, _*_, _/_, _<_, _≤_}
 use mathlib.Core.Path.{_≡_, refl, sym, ap, _∙_}
 use mathlib.Core.List.{List, [], _∷_}
 use mathlib.Core.Bool.{Bool, true, false, cond}
@@ -29,16 +29,14 @@ entries-end t n k h =
     let e : n - k ≡ 0 = omega arith in
     rw e
 
--- the number is in the first word of a record, the elements in its second
+-- the number is in the first word of a record, the elements in its first 32 bits
 pub number-is : (t : List ℕ) (k : ℕ) → Bytes t → wordAt t (12 * k) / 2 ≡ entryAt t k .number
 unfolding entryAt entryOf
 number-is t k b = omega (arith, b (12 * k + 2), b (12 * k + 2 + 1))
 
-pub count-is : (t : List ℕ) (k : ℕ) → countOf (entryOf (wordAt t (12 * k + 2)) 0 0) ≡ countOf (entryAt t k)
+pub count-is : (t : List ℕ) (k : ℕ) → countOf (entryOf (doubleAt t (12 * k)) 0 0) ≡ countOf (entryAt t k)
 unfolding entryAt entryOf countOf
-count-is t k =
-    let e : wordAt t (12 * k + 2) / 64 % 256 ≡ doubleAt t (12 * k) / 64 % 256 = omega arith in
-    rw e
+count-is t k = refl
 
 pub count-at-le : (t : List ℕ) (k : ℕ) → countOf (entryAt t k) ≤ 255
 unfolding entryAt

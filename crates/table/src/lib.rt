@@ -10,7 +10,6 @@ use entry::count_places;
 use entry::entry_of;
 use words::double_at;
 use words::join;
-use words::word_at;
 
 // What a search by number finds: the record at a place, or nothing.
 pub enum Found {
@@ -55,12 +54,12 @@ pub fn find(t: &[u8], number: u16) -> Found
     f
 }
 
-// The places that record k takes, by its second word alone.
+// The places that record k takes, by its first 32 bits alone.
 fn count_at(t: &[u8], k: u16) -> usize
     ensures { λ r. ⌜ r ≡ countOf (entryAt (now (t .entry)) k) ⌝ }
 {
-    let low = word_at(t, 12 * (k as usize) + 2);
-    count_places(entry_of(low as u32, 0, 0))
+    let head = double_at(t, 12 * (k as usize));
+    count_places(entry_of(head, 0, 0))
 }
 
 // The first value place of record k: the sum of the places of the records before it.

@@ -1,6 +1,5 @@
 -- `entry::entry_ok` meets its contract. Assumes nothing.
 use mathlib.Core.Path.{sym, _∙_}
-use borrow.Author.Tests.{le-leb, eq-eqb}
 use Rattle.rows.proofs.RowsLaws.{tests}
 use Rattle.entry.specs.Limits.{entryOk}
 use borrow.Author.Needs.{needs}

@@ -1,9 +1,9 @@
 -- `entry::to_signed` meets its contract. Assumes nothing.
 use Prim.Native.Nat.{_-_, _%_}
 use native.Mathlib.Omega.{arith}
-use mir.Syntax.{w16, w32}
+use mir.Syntax.{w32}
 use Rattle.entry.specs.Limits.{signedOf}
-use Rattle.entry.proofs.SignsLaws.{toZ-low, flip-fits, flip-is}
+use Rattle.entry.proofs.SignsLaws.{flip-fits, flip-is, flip-word-fits, word-fits-less, word-back}
 use borrow.Author.Needs.{needs}
 use Rattle.entry.proofs.to_signed.Statement.{statement}
 use Rattle.entry.proofs.to_signed.Tie as tie
@@ -38,33 +38,18 @@ returns-2 c =
     let x = c .before .before .args .x in
     rw (c .before .if1 .taken) (flip-is (4294967295 - x) (omega arith) w32 x (omega arith) (omega arith))
 
--- src/lib.rt:56:16
+-- src/lib.rt:54:6
 cast-result-3 : tie.Need-cast-result-3
-cast-result-3 c = search needs
+cast-result-3 c = flip-word-fits (c .before .args .x % 65536) (omega arith)
 
--- src/lib.rt:56:9
-returns-3 : tie.Need-returns-3
-unfolding signedOf
-returns-3 c = rw (c .before .if1 .left) (toZ-low w16 (c .before .before .args .x % 65536) (omega arith) (omega arith))
-
--- src/lib.rt:58:12
+-- src/lib.rt:54:5
 sub-result-3 : tie.Need-sub-result-3
-sub-result-3 c = search needs
-
--- src/lib.rt:58:11
-cast-result-4 : tie.Need-cast-result-4
-cast-result-4 c = search needs
-
--- src/lib.rt:58:5
-sub-result-4 : tie.Need-sub-result-4
-sub-result-4 c = flip-fits (65535 - c .before .before .args .x % 65536) (omega arith)
+sub-result-3 c = word-fits-less (c .before .args .x % 65536) (omega arith)
 
 -- src/lib.rt:45:1
-returns-4 : tie.Need-returns-4
+returns-3 : tie.Need-returns-3
 unfolding signedOf
-returns-4 c =
-    let x = c .before .before .args .x in
-    rw (c .before .if1 .left) (flip-is (65535 - x % 65536) (omega arith) w16 (x % 65536) (omega arith) (omega arith))
+returns-3 c = rw (c .if1 .left) (word-back (c .before .args .x % 65536) (omega arith))
 
 pub to-signed-spec : {M : Type 1} → statement M
 to-signed-spec =
@@ -77,8 +62,5 @@ to-signed-spec =
     sub-result-2
     returns-2
     cast-result-3
-    returns-3
     sub-result-3
-    cast-result-4
-    sub-result-4
-    returns-4)
+    returns-3)

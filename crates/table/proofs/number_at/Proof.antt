@@ -1,5 +1,4 @@
 -- `table::number_at` meets its contract. Assumes nothing.
-use mathlib.Core.Path.{_∙_}
 use denote.Ref.{now}
 use Rattle.table.proofs.RecordsLaws.{number-is}
 use borrow.Author.Needs.{needs}
