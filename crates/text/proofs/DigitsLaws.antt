@@ -1,0 +1,125 @@
+-- The digits of a number by those of its tenth; and why they are its decimal digits: read as a decimal number they give it
+-- back, each is one of `0` to `9`, and only 0 starts with a zero. Assumes nothing.
+use mathlib.Core.Path.{_≡_, refl, sym, ap, _∙_, subst}
+use mathlib.Core.Bool.{Bool, true, false, cond}
+use mathlib.Core.List.{List, [], _∷_, _++_}
+use Prim.Native.Nat.{ℕ, zero, suc, _+_, _-_, _*_, _/_, _%_, _^_, _≤_, _<_}
+use native.Mathlib.Nat.{pow-suc, div-lt-iff-lt-mul, mul-comm, lt-of-lt-of-le}
+use native.Mathlib.Omega.{arith}
+use lib.Dec.{ltb, lit<}
+use lib.ListN.{length, getD, length-append}
+use borrow.Author.Tests.{lt-ltb, le-ltb, ltb-true, ltb-false}
+use Rattle.text.specs.Digits.{digitsOf, digits, valueFrom, valueOf}
+
+-- ---- the digits by those of the tenth
+
+-- as many tenths as the number itself are enough, and more change nothing
+pub enough : (j k n : ℕ) → n ≤ j → n ≤ k → digitsOf j n ≡ digitsOf k n
+enough zero zero n h g = refl
+enough zero (suc k) n h g = rw (lt-ltb n 10 (omega arith))
+enough (suc j) zero n h g = rw (lt-ltb n 10 (omega arith))
+enough (suc j) (suc k) n h g = go (ltb n 10) refl (enough j k (n / 10))
+  where
+    go : (b : Bool) → ltb n 10 ≡ b → (n / 10 ≤ j → n / 10 ≤ k → digitsOf j (n / 10) ≡ digitsOf k (n / 10)) → cond b ((48 + n) ∷ []) (digitsOf j (n / 10) ++ ((48 + n % 10) ∷ [])) ≡ cond b ((48 + n) ∷ []) (digitsOf k (n / 10) ++ ((48 + n % 10) ∷ []))
+    go true e f = refl
+    go false e f =
+        let m : 10 ≤ n = ltb-false n 10 e in
+        ap (λ (l : List ℕ). l ++ ((48 + n % 10) ∷ [])) (f (omega arith) (omega arith))
+
+small-of : (k n : ℕ) → n < 10 → digitsOf k n ≡ (48 + n) ∷ []
+small-of zero n h = refl
+small-of (suc k) n h = rw (lt-ltb n 10 h)
+
+more-of : (k n : ℕ) → 10 ≤ n → n ≤ suc k → digitsOf (suc k) n ≡ digitsOf (n / 10) (n / 10) ++ ((48 + n % 10) ∷ [])
+more-of k n h g = rw (le-ltb n 10 h) (ap (λ (l : List ℕ). l ++ ((48 + n % 10) ∷ [])) (enough k (n / 10) (n / 10) (omega arith) (omega arith)))
+
+pub digits-small : (n : ℕ) → n < 10 → digits n ≡ (48 + n) ∷ []
+unfolding digits
+digits-small n h = small-of n n h
+
+pub digits-more : (n : ℕ) → 10 ≤ n → digits n ≡ digits (n / 10) ++ ((48 + n % 10) ∷ [])
+unfolding digits
+digits-more zero h = absurd (omega arith)
+digits-more (suc k) h = more-of k (suc k) h (omega arith)
+
+-- ---- how many there are
+
+pub length-small : (n : ℕ) → n < 10 → length (digits n) ≡ 1
+length-small n h = ap length (digits-small n h)
+
+pub length-more : (n : ℕ) → 10 ≤ n → length (digits n) ≡ length (digits (n / 10)) + 1
+length-more n h = ap length (digits-more n h) ∙ length-append (digits (n / 10)) ((48 + n % 10) ∷ [])
+
+-- what holds of the numbers below ten, and of a number where it holds of its tenth, holds of every number
+pub by-tenths : (P : ℕ → Type 0) → ((n : ℕ) → n < 10 → P n) → ((n : ℕ) → 10 ≤ n → P (n / 10) → P n) → (n : ℕ) → P n
+by-tenths P small more n = upTo n n (omega arith)
+  where
+    upTo : (k n : ℕ) → n ≤ k → P n
+    upTo zero n h = small n (omega arith)
+    upTo (suc k) n h = go (ltb n 10) refl (upTo k (n / 10))
+      where
+        go : (b : Bool) → ltb n 10 ≡ b → (n / 10 ≤ k → P (n / 10)) → P n
+        go true e f = small n (ltb-true n 10 e)
+        go false e f =
+            let m : 10 ≤ n = ltb-false n 10 e in
+            more n m (f (omega arith))
+
+-- ten to the power of as many digits is a bound, and at least one digit is there
+pub length-digits : (k n : ℕ) → n < 10 ^ suc k → length (digits n) ≤ suc k
+length-digits zero n h = omega (arith, length-small n h)
+length-digits (suc k) n h = go (ltb n 10) refl (length-digits k (n / 10))
+  where
+    go : (b : Bool) → ltb n 10 ≡ b → (n / 10 < 10 ^ suc k → length (digits (n / 10)) ≤ suc k) → length (digits n) ≤ suc (suc k)
+    go true e f = omega (arith, length-small n (ltb-true n 10 e))
+    go false e f =
+        let t : n / 10 < 10 ^ suc k = div-lt-iff-lt-mul (lit< tt) .1 (subst (λ (x : ℕ). n < x) (pow-suc 10 (suc k)) h) in
+        omega (arith, length-more n (ltb-false n 10 e), f t)
+
+pub some-digit : (n : ℕ) → 1 ≤ length (digits n)
+some-digit =
+    by-tenths (λ (n : ℕ). 1 ≤ length (digits n))
+    (λ n h. omega (arith, length-small n h))
+    (λ n h p. omega (arith, length-more n h))
+
+-- ---- why they are the decimal digits
+
+value-last : (n : ℕ) (xs : List ℕ) (y : ℕ) → valueFrom n (xs ++ (y ∷ [])) ≡ valueFrom n xs * 10 + (y - 48)
+value-last n [] y = refl
+value-last n (x ∷ xs) y = value-last (n * 10 + (x - 48)) xs y
+
+-- read as a decimal number they are the number
+pub digits-value : (n : ℕ) → valueOf (digits n) ≡ n
+digits-value =
+    by-tenths (λ (n : ℕ). valueOf (digits n) ≡ n)
+    (λ n h. ap valueOf (digits-small n h) ∙ omega arith)
+    (λ n h p. ap valueOf (digits-more n h) ∙ value-last 0 (digits (n / 10)) (48 + n % 10) ∙ omega (arith, p))
+
+-- P holds of each
+abbrev pub Each : (ℕ → Type 0) → List ℕ → Type 0
+Each P [] = Unit {0}
+Each P (x ∷ xs) = P x × Each P xs
+
+each-last : (P : ℕ → Type 0) (xs : List ℕ) (y : ℕ) → Each P xs → P y → Each P (xs ++ (y ∷ []))
+each-last P [] y e p = (p, tt)
+each-last P (x ∷ xs) y e p = (e .0, each-last P xs y (e .1) p)
+
+-- the codes of `0` to `9`
+abbrev pub IsDigit : ℕ → Type 0
+IsDigit x = (48 ≤ x) × (x ≤ 57)
+
+pub digits-each : (n : ℕ) → Each IsDigit (digits n)
+digits-each =
+    by-tenths (λ (n : ℕ). Each IsDigit (digits n))
+    (λ n h. subst (Each IsDigit) (sym (digits-small n h)) ((omega arith, omega arith), tt))
+    (λ n h p. subst (Each IsDigit) (sym (digits-more n h)) (each-last IsDigit (digits (n / 10)) (48 + n % 10) p (omega arith, omega arith)))
+
+first-kept : (xs : List ℕ) (y : ℕ) → 1 ≤ length xs → getD (xs ++ (y ∷ [])) 0 0 ≡ getD xs 0 0
+first-kept [] y h = absurd (omega arith)
+first-kept (x ∷ xs) y h = refl
+
+-- no number but 0 starts with a zero
+pub digits-first : (n : ℕ) → 0 < n → getD (digits n) 0 0 ≡ 48 → ⊥
+digits-first =
+    by-tenths (λ (n : ℕ). 0 < n → getD (digits n) 0 0 ≡ 48 → ⊥)
+    (λ n h g e. omega (arith, sym (ap (λ (l : List ℕ). getD l 0 0) (digits-small n h)) ∙ e))
+    (λ n h p g e. p (omega arith) (sym (first-kept (digits (n / 10)) (48 + n % 10) (some-digit (n / 10))) ∙ sym (ap (λ (l : List ℕ). getD l 0 0) (digits-more n h)) ∙ e))

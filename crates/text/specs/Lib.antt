@@ -1,0 +1,3 @@
+-- Text byte by byte, a number's decimal digits, and what a write at a place leaves.
+pub mod Digits
+pub mod Placed
