@@ -1,11 +1,9 @@
--- Laws of the listing. Assumes nothing.
+-- Pieces written one after another, and the listing by what the bytes decode to. Assumes nothing.
 use mathlib.Core.Path.{_≡_, refl, sym, ap, _∙_}
 use mathlib.Core.Bool.{Bool, true, false, false≢true}
 use mathlib.Core.List.{List, [], _∷_, _++_}
-use Prim.Native.Nat.{ℕ, _+_, _≤_, _<_}
-use native.Mathlib.Omega.{arith}
-use lib.ListN.{length, length-append}
-use Rattle.text.specs.Digits.{digits}
+use Prim.Native.Nat.{ℕ, _≤_}
+use lib.ListN.{length}
 use Rattle.text.specs.Placed.{putAll, joined}
 use Rattle.text.proofs.StoreLaws.{all-append}
 use Rattle.words.specs.Words.{byteAt}
@@ -16,7 +14,7 @@ use Rattle.frame.specs.declared.FrameCheck.the-variants.{Sound, Broken}
 use Rattle.frame.specs.declared.Decoded.{Decoded}
 use Rattle.frame.specs.declared.Decoded.the-variants.{Normal, Mirror, Broadcast, Refused}
 use Rattle.frame.proofs.FrameLaws.{framed}
-use Rattle.listing.specs.Listing.{goodPieces, refusedPieces, piecesOf, listing}
+use Rattle.listing.specs.Listing.{piecesOf, listing}
 
 -- `out` is l with the pieces xss written from a place on, and `at` is the place behind them
 pub record Wrote (l : List ℕ) (from : ℕ) (xss : List (List ℕ)) (out : List ℕ) (at : ℕ) : Type 0 where
@@ -31,14 +29,6 @@ more {l} {from} {xss} w yss p e = record {
   place = p ∙ rw (w .place, w .bytes, all-append l from xss yss);
   bytes = e ∙ rw (w .place, w .bytes, all-append l from xss yss);
 }
-
--- ---- how long the texts are
-
-pub good-size : (count lge node : ℕ) (kind : List ℕ) (bcc : ℕ) → length (joined (goodPieces count lge node kind bcc)) ≡ 43 + length kind + (length (digits count) + length (digits lge) + length (digits node) + length (digits bcc))
-good-size count lge node kind bcc = simp length-append (omega arith)
-
-pub refused-size : (count number : ℕ) → length (joined (refusedPieces count number)) ≡ 35 + length (digits count) + length (digits number)
-refused-size count number = simp length-append (omega arith)
 
 -- ---- by what the bytes decode to
 

@@ -10,7 +10,7 @@ use Rattle.text.proofs.DigitsLaws.{length-digits}
 use Rattle.text.proofs.StoreLaws.{put-not, all-joined}
 use Rattle.frame.specs.Frame.{lastOf}
 use Rattle.listing.specs.Listing.{goodText}
-use Rattle.listing.proofs.ListingLaws.{good-size}
+use Rattle.listing.proofs.LengthLaws.{good-size}
 use borrow.Author.Needs.{needs}
 use Rattle.listing.proofs.list_good.Statement.{statement}
 use Rattle.listing.proofs.list_good.Tie as tie

@@ -9,7 +9,8 @@ use Rattle.text.specs.Placed.{joined}
 use Rattle.text.proofs.DigitsLaws.{length-digits}
 use Rattle.text.proofs.StoreLaws.{put-not, all-joined}
 use Rattle.listing.specs.Listing.{header, refusedPieces}
-use Rattle.listing.proofs.ListingLaws.{none, more, refused-size}
+use Rattle.listing.proofs.ListingLaws.{none, more}
+use Rattle.listing.proofs.LengthLaws.{refused-size}
 use borrow.Author.Needs.{needs}
 use Rattle.listing.proofs.list_refused.Statement.{statement}
 use Rattle.listing.proofs.list_refused.Tie as tie
