@@ -10,7 +10,7 @@ use Rattle.words.specs.Words.{byteAt, Bytes}
 use Rattle.text.specs.Digits.{ascii, digits}
 use Rattle.text.specs.Placed.{putOut, joined}
 use Rattle.text.proofs.DigitsLaws.{length-digits}
-use Rattle.text.proofs.StoreLaws.{put-front, put-within}
+use Rattle.text.proofs.StoreLaws.{put-front, put-length, put-within}
 use Rattle.frame.specs.Frame.{frameOf, lastOf}
 use Rattle.frame.specs.Address.{addressRows, addressOf, kindOf, decodedFrom, faultNumber}
 use Rattle.frame.specs.declared.FrameFault.the-variants.{Short, Start, Length, Count, Check}
@@ -89,9 +89,16 @@ listing-most t b n = go (frameOf t)
 
 -- ---- what a call returns
 
--- the length is within the buffer: what `&out[..n]` asks
+-- the length is within the buffer
 pub listed-within : (received out : List ℕ) → listedOf received out .place ≤ length out
+unfolding listedOf
 listed-within received out = put-within out 0 (listing (take 300 received)) (omega arith)
+
+-- what `&out[..n]` asks after a call
+pub listed-lent : (received out : List ℕ) {n : ℕ} {after : List ℕ} → n ≡ listedOf received out .place → after ≡ listedOf received out .bytes → n ≤ length after
+unfolding listedOf
+listed-lent received out e f =
+    rw (e, f, put-length out 0 (listing (take 300 received))) (listed-within received out)
 
 bytes-take : (n : ℕ) (t : List ℕ) → Bytes t → Bytes (take n t)
 bytes-take zero t b i = lit< tt
@@ -101,6 +108,7 @@ bytes-take (suc n) (x ∷ t) b (suc i) = bytes-take n t (λ j. b (suc j)) i
 
 -- a buffer of 64 bytes or more takes the whole listing, and behind it keeps its bytes
 pub listed-whole : (received out : List ℕ) → Bytes received → 64 ≤ length out → let text = listing (take 300 received) in listedOf received out ≡ record { place = length text; bytes = text ++ drop (length text) out }
+unfolding listedOf
 listed-whole received out b h =
     let t = take 300 received in
     put-front out (listing t) (omega (arith, listing-most t (bytes-take 300 received b) (omega (arith, length-take 300 received))))

@@ -46,5 +46,5 @@ unfoldable pub listing : List ℕ → List ℕ
 listing t = joined (piecesOf t (decodedOf t))
 
 -- bytes past the first 300 are ignored, and not counted
-abbrev pub listedOf : List ℕ → List ℕ → Placed
+unfoldable pub listedOf : List ℕ → List ℕ → Placed
 listedOf received out = putOut out 0 (listing (take 300 received))

@@ -35,6 +35,14 @@ pub put-front : (out xs : List ℕ) → length xs ≤ length out → putOut out 
 unfolding putOut
 put-front out xs h = rw (zero-add (length xs), le-leb _ _ h)
 
+-- the buffer keeps its length
+pub put-length : (out : List ℕ) (at : ℕ) (xs : List ℕ) → length (putOut out at xs .bytes) ≡ length out
+put-length out at xs = go (leb (at + length xs) (length out)) refl
+  where
+    go : (b : Bool) → leb (at + length xs) (length out) ≡ b → length (putOut out at xs .bytes) ≡ length out
+    go true e = rw (put-fits out at xs (leb-true _ _ e)) (length-sets out at xs)
+    go false e = rw (put-not out at xs (leb-false _ _ e))
+
 -- the place is within the buffer, if `at` was
 pub put-within : (out : List ℕ) (at : ℕ) (xs : List ℕ) → at ≤ length out → putOut out at xs .place ≤ length out
 put-within out at xs h = go (leb (at + length xs) (length out)) refl

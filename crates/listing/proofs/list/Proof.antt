@@ -3,6 +3,7 @@ use mathlib.Core.Path.{sym}
 use native.Mathlib.Omega.{arith}
 use lib.Seq.{take-all, length-take-le}
 use borrow.Author.Needs.{needs}
+use Rattle.listing.specs.Listing.{listedOf}
 use Rattle.listing.proofs.list.Statement.{statement}
 use Rattle.listing.proofs.list.Tie as tie
 use Rattle.listing.proofs.list.Reads as reads
@@ -19,6 +20,7 @@ same-length : tie.Need-same-length
 same-length c = search needs
 
 returns : tie.Need-returns
+unfolding listedOf
 returns c = search needs
 
 list-decoded-requires-2 : tie.Need-list-decoded-requires-2
@@ -28,6 +30,7 @@ same-length-2 : tie.Need-same-length-2
 same-length-2 c = search needs
 
 returns-2 : tie.Need-returns-2
+unfolding listedOf
 returns-2 c =
     let l = c .before .before in
     let t = l .before .before .before .before .before .args .received .now in
