@@ -81,6 +81,16 @@ some-digit =
     (λ n h. omega (arith, length-small n h))
     (λ n h p. omega (arith, length-more n h))
 
+-- the tenth has no more digits
+pub length-tenth : (n : ℕ) → length (digits (n / 10)) ≤ length (digits n)
+length-tenth n = go (ltb n 10) refl
+  where
+    go : (b : Bool) → ltb n 10 ≡ b → length (digits (n / 10)) ≤ length (digits n)
+    go true e =
+        let h : n < 10 = ltb-true n 10 e in
+        omega (arith, length-small n h, length-small (n / 10) (omega arith))
+    go false e = omega (arith, length-more n (ltb-false n 10 e))
+
 -- ---- why they are the decimal digits
 
 value-last : (n : ℕ) (xs : List ℕ) (y : ℕ) → valueFrom n (xs ++ (y ∷ [])) ≡ valueFrom n xs * 10 + (y - 48)

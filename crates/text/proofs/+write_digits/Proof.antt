@@ -6,7 +6,7 @@ use lib.ListN.{length, set, length-set}
 use lib.Seq.{sets, length-sets}
 use Rattle.text.specs.Digits.{digits}
 use Rattle.text.proofs.StoreLaws.{sets-append}
-use Rattle.text.proofs.DigitsLaws.{digits-small, digits-more, length-small, length-more}
+use Rattle.text.proofs.DigitsLaws.{digits-small, digits-more, length-more, length-tenth, some-digit}
 use Prim.Native.Nat.{ℕ, _<_, _≤_}
 use borrow.Fn.Kinds.{In}
 use borrow.Fn.PlainCycle.{Measures, is, falls, and}
@@ -47,7 +47,7 @@ write-digits-slice-write-out : (t : ℕ) → write-digits-lts.Need-slice-write-o
   write-digits-below t,
   write-digits.Post,
 ) (write-digits-at t) write-digits.Post
-write-digits-slice-write-out t c = omega (arith, length-small (c .before .before .args .n) (c .if1 .taken))
+write-digits-slice-write-out t c = omega (arith, some-digit (c .before .before .args .n))
 
 write-digits-add-result : (t : ℕ) → write-digits-lts.Need-add-result (
   write-digits-below t,
@@ -67,15 +67,18 @@ write-digits-returns :
     (write-digits-below t, write-digits.Post)
     (write-digits-at t)
     write-digits.Post
-write-digits-returns t c = rw (digits-small (c .before .before .args .n) (c .if1 .taken)) (refl, refl)
+write-digits-returns t c =
+    let n = c .before .before .args .n in
+    let h : n < 10 = omega arith in
+    rw (digits-small n h) (refl, refl)
 
 write-digits-write-digits-requires : (t : ℕ) → write-digits-lts.Need-write-digits-requires (
   write-digits-below t,
   write-digits.Post,
 ) (write-digits-at t) write-digits.Post
 write-digits-write-digits-requires t c κs =
-    let a = c .before .before .before in
-    (omega arith, omega (arith, length-more (a .args .n) (c .before .if1 .left)))
+    let n = c .before .before .before .args .n in
+    (omega arith, omega (arith, length-tenth n))
 
 write-digits-cast-out-2 : (t : ℕ) → write-digits-lts.Need-cast-out-2 (
   write-digits-below t,
