@@ -1,14 +1,14 @@
 -- How long a listing is: exactly, and at most 64 bytes. Assumes nothing.
-use mathlib.Core.Path.{_≡_, refl, sym, ap, _∙_}
+use mathlib.Core.Path.{_≡_}
 use mathlib.Core.List.{List, [], _∷_, _++_}
-use Prim.Native.Nat.{ℕ, zero, suc, _+_, _%_, _≤_, _<_, min}
+use Prim.Native.Nat.{ℕ, zero, suc, _+_, _%_, _≤_, _<_}
 use native.Mathlib.Omega.{arith}
 use lib.Dec.{lit<, lit≤}
 use lib.ListN.{length, take, drop, length-append, length-take}
 use Rattle.rows.proofs.RowsLaws.{first-all}
 use Rattle.words.specs.Words.{byteAt, Bytes}
 use Rattle.text.specs.Digits.{ascii, digits}
-use Rattle.text.specs.Placed.{putOut, joined}
+use Rattle.text.specs.Placed.{joined}
 use Rattle.text.proofs.DigitsLaws.{length-digits}
 use Rattle.text.proofs.StoreLaws.{put-front, put-length, put-within}
 use Rattle.frame.specs.Frame.{frameOf, lastOf}

@@ -1,15 +1,14 @@
--- The digits of a number by those of its tenth; and why they are its decimal digits: read as a decimal number they give it
--- back, each is one of `0` to `9`, and only 0 starts with a zero. Assumes nothing.
-use mathlib.Core.Path.{_≡_, refl, sym, ap, _∙_, subst}
+-- The digits of a number by those of its tenth, and how many there are. Assumes nothing.
+use mathlib.Core.Path.{_≡_, refl, ap, _∙_, subst}
 use mathlib.Core.Bool.{Bool, true, false, cond}
 use mathlib.Core.List.{List, [], _∷_, _++_}
-use Prim.Native.Nat.{ℕ, zero, suc, _+_, _-_, _*_, _/_, _%_, _^_, _≤_, _<_}
-use native.Mathlib.Nat.{pow-suc, div-lt-iff-lt-mul, mul-comm, lt-of-lt-of-le}
+use Prim.Native.Nat.{ℕ, zero, suc, _+_, _/_, _%_, _^_, _≤_, _<_}
+use native.Mathlib.Nat.{pow-suc, div-lt-iff-lt-mul}
 use native.Mathlib.Omega.{arith}
 use lib.Dec.{ltb, lit<}
-use lib.ListN.{length, getD, length-append}
+use lib.ListN.{length, length-append}
 use borrow.Author.Tests.{lt-ltb, le-ltb, ltb-true, ltb-false}
-use Rattle.text.specs.Digits.{digitsOf, digits, valueFrom, valueOf}
+use Rattle.text.specs.Digits.{digitsOf, digits}
 
 -- ---- the digits by those of the tenth
 
@@ -90,46 +89,3 @@ length-tenth n = go (ltb n 10) refl
         let h : n < 10 = ltb-true n 10 e in
         omega (arith, length-small n h, length-small (n / 10) (omega arith))
     go false e = omega (arith, length-more n (ltb-false n 10 e))
-
--- ---- why they are the decimal digits
-
-value-last : (n : ℕ) (xs : List ℕ) (y : ℕ) → valueFrom n (xs ++ (y ∷ [])) ≡ valueFrom n xs * 10 + (y - 48)
-value-last n [] y = refl
-value-last n (x ∷ xs) y = value-last (n * 10 + (x - 48)) xs y
-
--- read as a decimal number they are the number
-pub digits-value : (n : ℕ) → valueOf (digits n) ≡ n
-digits-value =
-    by-tenths (λ (n : ℕ). valueOf (digits n) ≡ n)
-    (λ n h. ap valueOf (digits-small n h) ∙ omega arith)
-    (λ n h p. ap valueOf (digits-more n h) ∙ value-last 0 (digits (n / 10)) (48 + n % 10) ∙ omega (arith, p))
-
--- P holds of each
-abbrev pub Each : (ℕ → Type 0) → List ℕ → Type 0
-Each P [] = Unit {0}
-Each P (x ∷ xs) = P x × Each P xs
-
-each-last : (P : ℕ → Type 0) (xs : List ℕ) (y : ℕ) → Each P xs → P y → Each P (xs ++ (y ∷ []))
-each-last P [] y e p = (p, tt)
-each-last P (x ∷ xs) y e p = (e .0, each-last P xs y (e .1) p)
-
--- the codes of `0` to `9`
-abbrev pub IsDigit : ℕ → Type 0
-IsDigit x = (48 ≤ x) × (x ≤ 57)
-
-pub digits-each : (n : ℕ) → Each IsDigit (digits n)
-digits-each =
-    by-tenths (λ (n : ℕ). Each IsDigit (digits n))
-    (λ n h. subst (Each IsDigit) (sym (digits-small n h)) ((omega arith, omega arith), tt))
-    (λ n h p. subst (Each IsDigit) (sym (digits-more n h)) (each-last IsDigit (digits (n / 10)) (48 + n % 10) p (omega arith, omega arith)))
-
-first-kept : (xs : List ℕ) (y : ℕ) → 1 ≤ length xs → getD (xs ++ (y ∷ [])) 0 0 ≡ getD xs 0 0
-first-kept [] y h = absurd (omega arith)
-first-kept (x ∷ xs) y h = refl
-
--- no number but 0 starts with a zero
-pub digits-first : (n : ℕ) → 0 < n → getD (digits n) 0 0 ≡ 48 → ⊥
-digits-first =
-    by-tenths (λ (n : ℕ). 0 < n → getD (digits n) 0 0 ≡ 48 → ⊥)
-    (λ n h g e. omega (arith, sym (ap (λ (l : List ℕ). getD l 0 0) (digits-small n h)) ∙ e))
-    (λ n h p g e. p (omega arith) (sym (first-kept (digits (n / 10)) (48 + n % 10) (some-digit (n / 10))) ∙ sym (ap (λ (l : List ℕ). getD l 0 0) (digits-more n h)) ∙ e))

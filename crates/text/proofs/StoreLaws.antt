@@ -1,5 +1,5 @@
 -- A run of stores, one more and one after another; and a write at a place as such a run. Assumes nothing.
-use mathlib.Core.Path.{_≡_, refl, sym, ap, _∙_}
+use mathlib.Core.Path.{_≡_, refl, sym, _∙_}
 use mathlib.Core.List.{List, [], _∷_, _++_}
 use Prim.Native.Nat.{ℕ, suc, _+_, _≤_, _<_}
 use native.Mathlib.Nat.{add-zero, add-suc, suc-add, add-assoc, zero-add}
@@ -10,7 +10,7 @@ use lib.Seq.{sets, length-sets, sets-eq, take-suc}
 use lib.Dec.{leb}
 use mathlib.Core.Bool.{Bool, true, false}
 use borrow.Author.Tests.{le-leb, lt-leb, leb-true, leb-false}
-use Rattle.text.specs.Placed.{Placed, putOut, putAll, joined}
+use Rattle.text.specs.Placed.{putOut, putAll, joined}
 
 pub sets-append : (l : List ℕ) (i : ℕ) (xs ys : List ℕ) → sets l i (xs ++ ys) ≡ sets (sets l i xs) (i + length xs) ys
 sets-append l i [] ys = rw (add-zero i)

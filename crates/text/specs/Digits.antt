@@ -1,8 +1,7 @@
 -- Text byte by byte, and a number's decimal digits (document 01, Listing program): most significant first, no leading zero.
 --     ascii s           the text s, each character its ASCII code
 --     digits n          the digits of n; 48 is the code of `0`
---     valueOf xs        the number that the digits xs are read as
-use Prim.Native.Nat.{ℕ, zero, suc, _+_, _-_, _*_, _/_, _%_}
+use Prim.Native.Nat.{ℕ, zero, suc, _+_, _/_, _%_}
 use Prim.Native.String as Str
 use Prim.Native.String.{String}
 use Prim.Native.Char.{code}
@@ -21,11 +20,3 @@ digitsOf (suc k) n = cond (ltb n 10) ((48 + n) ∷ []) (digitsOf k (n / 10) ++ (
 
 unfoldable pub digits : ℕ → List ℕ
 digits n = digitsOf n n
-
--- the digits xs behind a number that is already read
-abbrev pub valueFrom : ℕ → List ℕ → ℕ
-valueFrom n [] = n
-valueFrom n (x ∷ xs) = valueFrom (n * 10 + (x - 48)) xs
-
-abbrev pub valueOf : List ℕ → ℕ
-valueOf xs = valueFrom 0 xs

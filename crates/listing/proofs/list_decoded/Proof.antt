@@ -1,5 +1,5 @@
 -- `listing::list_decoded` meets its contract: each arm lists what `piecesOf` says of its case. Assumes nothing.
-use mathlib.Core.Path.{_≡_, sym, ap, _∙_}
+use mathlib.Core.Path.{sym, ap, _∙_}
 use native.Mathlib.Omega.{arith}
 use Rattle.listing.proofs.ListingLaws.{listing-by, isTelegram, telegram-long}
 use borrow.Author.Needs.{needs}

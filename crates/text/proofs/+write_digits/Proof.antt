@@ -1,10 +1,7 @@
 -- `text::write_digits` meets its contract: its calls of itself end, since the number falls. Assumes nothing.
-use mathlib.Core.Path.{_≡_, refl, sym, ap, _∙_}
+use mathlib.Core.Path.{refl}
 use native.Mathlib.Omega.{arith}
 use borrow.Author.Needs.{needs}
-use lib.ListN.{length, set, length-set}
-use lib.Seq.{sets, length-sets}
-use Rattle.text.specs.Digits.{digits}
 use Rattle.text.proofs.StoreLaws.{sets-append}
 use Rattle.text.proofs.DigitsLaws.{digits-small, digits-more, length-more, length-tenth, some-digit}
 use Prim.Native.Nat.{ℕ, _<_, _≤_}

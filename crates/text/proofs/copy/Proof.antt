@@ -1,9 +1,9 @@
 -- `text::copy` meets its contract: after j turns the first j bytes of src stand at `at`. Assumes nothing.
-use mathlib.Core.Path.{_≡_, refl, sym, ap, _∙_}
-use Prim.Native.Nat.{_≤_, _<_, _-_, _+_}
+use mathlib.Core.Path.{_≡_, _∙_}
+use Prim.Native.Nat.{_≤_, _<_, _-_}
 use native.Mathlib.Omega.{arith}
 use borrow.Author.Needs.{needs}
-use lib.ListN.{length, take, set, length-set}
+use lib.ListN.{length, take, length-set}
 use lib.Seq.{sets, take-length, length-take-le}
 use Rattle.text.proofs.StoreLaws.{copy-more}
 use Rattle.text.proofs.copy.Statement.{statement}

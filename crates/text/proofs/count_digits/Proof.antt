@@ -1,5 +1,5 @@
 -- `text::count_digits` meets its contract: the digits counted and those of the rest make those of the number. Assumes nothing.
-use Prim.Native.Nat.{_+_, _<_, _^_}
+use Prim.Native.Nat.{_+_}
 use mathlib.Core.Path.{_≡_}
 use native.Mathlib.Omega.{arith}
 use lib.ListN.{length}

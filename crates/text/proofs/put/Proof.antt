@@ -1,5 +1,5 @@
 -- `text::put` meets its contract, by what its callees ensure. Assumes nothing.
-use mathlib.Core.Path.{_≡_, refl, sym, _∙_}
+use mathlib.Core.Path.{refl, sym, _∙_}
 use Prim.Native.Nat.{_+_, _≤_, _<_}
 use lib.ListN.{length}
 use borrow.Author.Needs.{needs}
