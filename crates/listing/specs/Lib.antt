@@ -1,0 +1,2 @@
+-- The listing of received bytes.
+pub mod Listing

@@ -1,0 +1,3 @@
+-- Laws of the digits.
+pub mod DigitsLaws
+pub mod DecimalLaws

@@ -1,0 +1,3 @@
+-- Text byte by byte and a number's decimal digits.
+pub mod Digits
+pub mod Decimal
