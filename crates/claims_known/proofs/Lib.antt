@@ -1,0 +1,2 @@
+-- The known telegrams, proved.
+pub mod KnownHolds

@@ -1,0 +1,171 @@
+-- The known telegrams of document 01 ("Telegrams to prove and to run"), each as what the definitions give beside what the
+-- document says. Slave and master have four parameter words in all of them.
+--     known        the list, K1 to K12 in order
+use Prim.Native.Nat.{ℕ, _/_, _%_}
+use mathlib.Core.List.{List, [], _∷_, _++_}
+use lib.ListN.{replicate, take}
+use Rattle.words.specs.declared.Words.{Words}
+use Rattle.setup.specs.declared.Setup.{Setup}
+use Rattle.frame.specs.Bcc.{xorAll}
+use Rattle.net.specs.declared.Area.{Area}
+use Rattle.net.specs.Net.{wordsOf}
+use Rattle.net.specs.Telegram.{telegramOf}
+use Rattle.slave.specs.Perform.{Performed, performOf}
+use Rattle.slave.specs.Slave.{Outcome, answerNumber, callOf}
+use Rattle.request.specs.declared.Request.the-variants.{Task}
+use Rattle.master.specs.Build.{taskArea, telegramFor}
+
+-- what the definitions give, and what the document says
+abbrev pub Case : Type 0
+Case = List ℕ × List ℕ
+
+-- ---- the set-up: node 3, PKW 4, PZD 2
+
+abbrev pub setup : Setup
+setup = record { node = 3; pkw = 4; pzd = 2 }
+
+abbrev pub words : ℕ → ℕ → Words
+words a b = record { w1 = a; w2 = b; w3 = 0; w4 = 0 }
+
+abbrev pub buffer : List ℕ
+buffer = replicate 256 0
+
+-- ---- K1: check characters of 003
+
+abbrev pub k1-first : Case
+k1-first = (xorAll (0x02 ∷ 0x07 ∷ 0x00 ∷ 0x04 ∷ 0x00 ∷ 0x21 ∷ 0x00 ∷ 0x1C ∷ []) ∷ [], 0x3C ∷ [])
+
+abbrev pub k1-second : Case
+k1-second = (xorAll (0x02 ∷ 0x05 ∷ 0x00 ∷ 0x00 ∷ 0x0C ∷ 0x06 ∷ []) ∷ [], 0x0D ∷ [])
+
+-- ---- K2: the master's telegram for task 1, number 1082, words 047F 2000, with any LGE and last byte for K5 and K6
+
+abbrev pub task1082 : ℕ → ℕ → List ℕ
+task1082 lge last =
+    0x02 ∷ lge ∷ 0x03 ∷ 0x14 ∷ 0x3A ∷ 0x00 ∷ 0x00 ∷ 0x00 ∷ 0x00 ∷ 0x00 ∷ 0x00 ∷ 0x04 ∷ 0x7F ∷ 0x20 ∷ 0x00 ∷ last ∷ []
+
+abbrev pub k2 : Case
+k2 = (telegramFor setup (Task 1 1082 0 0 (words 0x047F 0x2000)) [], task1082 0x0E 0x7A)
+
+-- ---- K3, K4, K5, K6: the slave's answers to it
+
+-- number 1082, unsigned word, read only, no array, limits 0 to 65535
+abbrev pub table1082 : List ℕ
+table1082 = 0x08 ∷ 0x74 ∷ 0x00 ∷ 0x00 ∷ 0x00 ∷ 0x00 ∷ 0x00 ∷ 0x00 ∷ 0x00 ∷ 0x00 ∷ 0xFF ∷ 0xFF ∷ []
+
+abbrev pub call : List ℕ → List ℕ → List ℕ → Outcome
+call table values received = callOf setup table values (words 0 0) (words 0x0331 0x2000) received buffer
+
+-- the answer's number, the reply's length, and the reply
+abbrev pub shown : Outcome → List ℕ
+shown o = answerNumber (o .served .answer) ∷ o .served .length ∷ take (o .served .length) (o .reply)
+
+abbrev pub k3 : Case
+k3 = (
+  shown (call table1082 (5000 ∷ []) (task1082 0x0E 0x7A)),
+  0 ∷ 16 ∷ 0x02 ∷ 0x0E ∷ 0x03 ∷ 0x14 ∷ 0x3A ∷ 0x00 ∷ 0x00 ∷ 0x00 ∷ 0x00 ∷ 0x13 ∷ 0x88 ∷ 0x03 ∷ 0x31 ∷ 0x20 ∷ 0x00 ∷ 0xA8 ∷ [],
+)
+
+abbrev pub k4 : Case
+k4 = (
+  shown (call [] [] (task1082 0x0E 0x7A)),
+  0 ∷ 16 ∷ 0x02 ∷ 0x0E ∷ 0x03 ∷ 0x74 ∷ 0x3A ∷ 0x00 ∷ 0x00 ∷ 0x00 ∷ 0x00 ∷ 0x00 ∷ 0x00 ∷ 0x03 ∷ 0x31 ∷ 0x20 ∷ 0x00 ∷ 0x53 ∷ [],
+)
+
+abbrev pub k5 : Case
+k5 = (shown (call table1082 (5000 ∷ []) (task1082 0x0E 0x7B)), 14 ∷ 0 ∷ [])
+
+abbrev pub k6 : Case
+k6 = (shown (call table1082 (5000 ∷ []) (task1082 0x0F 0x7A)), 13 ∷ 0 ∷ [])
+
+-- ---- K7: the IND word of numbers at index 0
+
+abbrev pub indOf : ℕ → ℕ
+indOf number = taskArea 1 number 0 0 .ind
+
+abbrev pub k7 : Case
+k7 = (
+  indOf 1999 ∷ indOf 2000 ∷ indOf 4000 ∷ indOf 16000 ∷ indOf 31999 ∷ [],
+  0x0000 ∷ 0x8000 ∷ 0x1000 ∷ 0x4000 ∷ 0xF000 ∷ [],
+)
+
+-- ---- parameter tasks on one record: the reply's ID and value, and the values afterwards
+
+abbrev pub perform : List ℕ → List ℕ → Area → List ℕ
+perform table values a =
+    let p = performOf 4 table values a in
+    p .area .pke / 4096 ∷ p .area .value ∷ p .values
+
+-- PKE, IND and the value of a task
+abbrev pub area : ℕ → ℕ → ℕ → Area
+area pke ind value = record { pke = pke; ind = ind; value = value }
+
+-- K8: base 2000 is error 0, also where the table has number 2000
+abbrev pub table2000 : List ℕ
+table2000 = 0x0F ∷ 0xA0 ∷ 0x00 ∷ 0x00 ∷ 0x00 ∷ 0x00 ∷ 0x00 ∷ 0x00 ∷ 0x00 ∷ 0x00 ∷ 0xFF ∷ 0xFF ∷ []
+
+abbrev pub k8 : Case
+k8 = (perform table2000 (7 ∷ []) (area 0x17D0 0x0000 0), 7 ∷ 0 ∷ 7 ∷ [])
+
+-- the same parameter by its page and base 0 is there
+abbrev pub k8-paged : Case
+k8-paged = (perform table2000 (7 ∷ []) (area 0x1000 0x8000 0), 1 ∷ 7 ∷ 7 ∷ [])
+
+-- ---- K9, K10: broadcasts
+
+-- a telegram with selector, first mask, two zero words, and two process words
+abbrev pub broadcast : ℕ → ℕ → ℕ → ℕ → List ℕ
+broadcast selector mask first second =
+    telegramOf 0x20
+    (selector / 256 ∷ selector % 256 ∷ mask / 256 ∷ mask % 256 ∷ 0 ∷ 0 ∷ 0 ∷ 0
+    ∷ first / 256 ∷ first % 256 ∷ second / 256 ∷ second % 256 ∷ [])
+
+-- the answer's number, the reply's length, and the four control words, from 047E 1111
+abbrev pub commanded : List ℕ → List ℕ
+commanded received =
+    let o = callOf setup [] [] (words 0x047E 0x1111) (words 0x0331 0x2000) received buffer in
+    answerNumber (o .served .answer) ∷ o .served .length ∷ wordsOf (o .served .control)
+
+abbrev pub k9 : Case
+k9 = (commanded (broadcast 0x0006 0x0401 0x0401 0x2000), 2 ∷ 0 ∷ 0x047F ∷ 0x1111 ∷ 0 ∷ 0 ∷ [])
+
+abbrev pub k10 : Case
+k10 = (commanded (broadcast 0x0002 0xFFFF 0x047F 0x2000), 2 ∷ 0 ∷ 0x047F ∷ 0x1111 ∷ 0 ∷ 0 ∷ [])
+
+-- ---- K11: a signed word, number 1, writable, limits -100 to 100; task 2
+
+abbrev pub signedTable : List ℕ
+signedTable = 0x00 ∷ 0x02 ∷ 0xC0 ∷ 0x00 ∷ 0x00 ∷ 0x00 ∷ 0xFF ∷ 0x9C ∷ 0x00 ∷ 0x00 ∷ 0x00 ∷ 0x64 ∷ []
+
+abbrev pub k11-taken : Case
+k11-taken = (perform signedTable (0 ∷ []) (area 0x2001 0x0000 0xFF9C), 1 ∷ 0xFF9C ∷ 0xFF9C ∷ [])
+
+abbrev pub k11-outside : Case
+k11-outside = (perform signedTable (0 ∷ []) (area 0x2001 0x0000 0xFF9B), 7 ∷ 2 ∷ 0 ∷ [])
+
+-- ---- K12: task 6 by index, without an array and with two elements
+
+abbrev pub plainTable : List ℕ
+plainTable = 0x00 ∷ 0x02 ∷ 0x00 ∷ 0x00 ∷ 0x00 ∷ 0x00 ∷ 0x00 ∷ 0x00 ∷ 0x00 ∷ 0x00 ∷ 0xFF ∷ 0xFF ∷ []
+
+abbrev pub pairTable : List ℕ
+pairTable = 0x00 ∷ 0x02 ∷ 0x00 ∷ 0x80 ∷ 0x00 ∷ 0x00 ∷ 0x00 ∷ 0x00 ∷ 0x00 ∷ 0x00 ∷ 0xFF ∷ 0xFF ∷ []
+
+abbrev pub k12-plain-runs : Case
+k12-plain-runs = (perform plainTable (11 ∷ []) (area 0x6001 0x0001 0), 4 ∷ 11 ∷ 11 ∷ [])
+
+abbrev pub k12-plain-over : Case
+k12-plain-over = (perform plainTable (11 ∷ []) (area 0x6001 0x0002 0), 7 ∷ 4 ∷ 11 ∷ [])
+
+abbrev pub k12-pair-runs : Case
+k12-pair-runs = (perform pairTable (11 ∷ 12 ∷ []) (area 0x6001 0x0001 0), 4 ∷ 12 ∷ 11 ∷ 12 ∷ [])
+
+abbrev pub k12-pair-over : Case
+k12-pair-over = (perform pairTable (11 ∷ 12 ∷ []) (area 0x6001 0x0002 0), 7 ∷ 3 ∷ 11 ∷ 12 ∷ [])
+
+-- ---- all of them
+
+abbrev pub known : List Case
+known =
+    k1-first ∷ k1-second ∷ k2 ∷ k3 ∷ k4 ∷ k5 ∷ k6 ∷ k7 ∷ k8 ∷ k8-paged ∷ k9 ∷ k10 ∷ k11-taken ∷ k11-outside
+    ∷ k12-plain-runs ∷ k12-plain-over ∷ k12-pair-runs ∷ k12-pair-over ∷ []

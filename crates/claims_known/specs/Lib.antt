@@ -1,0 +1,2 @@
+-- The known telegrams K1 to K12.
+pub mod Known
