@@ -1,0 +1,230 @@
+-- Any two outcomes that the contract of a public function allows are equal: the result, and each lent buffer afterwards.
+-- `F.Post` is the contract of F as its source states it. Assumes nothing.
+use Prim.Native.Nat.{ℕ}
+use mathlib.Core.Path.{_≡_, sym, _∙_}
+use mathlib.Core.List.{List}
+use denote.Ref.{now}
+use Rattle.words.proofs.join.Reads as words-join
+use Rattle.words.proofs.join_double.Reads as words-join-double
+use Rattle.words.proofs.byte_at.Reads as words-byte-at
+use Rattle.words.proofs.word_at.Reads as words-word-at
+use Rattle.words.proofs.double_at.Reads as words-double-at
+use Rattle.store.proofs.has_room.Reads as store-has-room
+use Rattle.frame.proofs.bcc.Reads as frame-bcc
+use Rattle.frame.proofs.check.Reads as frame-check
+use Rattle.frame.proofs.read_address.Reads as frame-read-address
+use Rattle.frame.proofs.decode.Reads as frame-decode
+use Rattle.frame.proofs.number_frame_fault.Reads as frame-number-frame-fault
+use Rattle.frame.proofs.number_fault.Reads as frame-number-fault
+use Rattle.setup.proofs.setup_ok.Reads as setup-setup-ok
+use Rattle.entry.proofs.entry_of.Reads as entry-entry-of
+use Rattle.entry.proofs.count_places.Reads as entry-count-places
+use Rattle.entry.proofs.at_most.Reads as entry-at-most
+use Rattle.entry.proofs.within.Reads as entry-within
+use Rattle.entry.proofs.entry_ok.Reads as entry-entry-ok
+use Rattle.table.proofs.entry_at.Reads as table-entry-at
+use Rattle.table.proofs.find.Reads as table-find
+use Rattle.table.proofs.first_place.Reads as table-first-place
+use Rattle.opening.proofs.«open».Reads as opening-open
+use Rattle.net.proofs.read_area.Reads as net-read-area
+use Rattle.net.proofs.read_process.Reads as net-read-process
+use Rattle.task.proofs.task_of.Reads as task-task-of
+use Rattle.task.proofs.page_of.Reads as task-page-of
+use Rattle.task.proofs.nibble_of.Reads as task-nibble-of
+use Rattle.task.proofs.full_number.Reads as task-full-number
+use Rattle.task.proofs.number_error.Reads as task-number-error
+use Rattle.task.proofs.judge.Reads as task-judge
+use Rattle.task.proofs.pick_element.Reads as task-pick-element
+use Rattle.broadcast.proofs.is_void.Reads as broadcast-is-void
+use Rattle.broadcast.proofs.merge.Reads as broadcast-merge
+use Rattle.broadcast.proofs.command_control.Reads as broadcast-command-control
+use Rattle.request.proofs.can_ask.Reads as request-can-ask
+use Rattle.request.proofs.can_express.Reads as request-can-express
+use Rattle.reply.proofs.read.Reads as reply-read
+use Rattle.text.proofs.count_digits.Reads as text-count-digits
+use Rattle.store.proofs.put.Reads as store-put
+use Rattle.net.proofs.seal.Reads as net-seal
+use Rattle.net.proofs.write_normal.Reads as net-write-normal
+use Rattle.text.proofs.put_number.Reads as text-put-number
+use Rattle.listing.proofs.list.Reads as listing-list
+use Rattle.slave.proofs.serve.Reads as slave-serve
+use Rattle.master.proofs.build.Reads as master-build
+
+-- what is equal to the same definition is equal
+pub one-result : {A : Type 0} {d r r′ : A} → r ≡ d → r′ ≡ d → r ≡ r′
+one-result e e′ = e ∙ sym e′
+
+-- two calls with the same parameters have the same result
+abbrev pub OneResult : {L : Type 0} {A R S : L → Type 0} → ((κs : L) → A κs → R κs → S κs → Type 0) → Type 0
+OneResult {L} {A} {R} {S} Post = (κs : L) (a : A κs) (r r′ : R κs) (s s′ : S κs) → Post κs a r s → Post κs a r′ s′ → r ≡ r′
+
+-- and leave the same in a lent buffer
+abbrev pub OneExit : {L : Type 0} {A R S : L → Type 0} → ((κs : L) → A κs → R κs → S κs → Type 0) → ((κs : L) → S κs → List ℕ) → Type 0
+OneExit {L} {A} {R} {S} Post left =
+    (κs : L) (a : A κs) (r r′ : R κs) (s s′ : S κs) → Post κs a r s → Post κs a r′ s′ → left κs s ≡ left κs s′
+
+pub words-join-one : OneResult words-join.Post
+words-join-one κs a r r′ s s′ = one-result
+
+pub words-join-double-one : OneResult words-join-double.Post
+words-join-double-one κs a r r′ s s′ = one-result
+
+pub words-byte-at-one : OneResult words-byte-at.Post
+words-byte-at-one κs a r r′ s s′ = one-result
+
+pub words-word-at-one : OneResult words-word-at.Post
+words-word-at-one κs a r r′ s s′ = one-result
+
+pub words-double-at-one : OneResult words-double-at.Post
+words-double-at-one κs a r r′ s s′ = one-result
+
+pub store-has-room-one : OneResult store-has-room.Post
+store-has-room-one κs a r r′ s s′ = one-result
+
+pub frame-bcc-one : OneResult frame-bcc.Post
+frame-bcc-one κs a r r′ s s′ = one-result
+
+pub frame-check-one : OneResult frame-check.Post
+frame-check-one κs a r r′ s s′ = one-result
+
+pub frame-read-address-one : OneResult frame-read-address.Post
+frame-read-address-one κs a r r′ s s′ = one-result
+
+pub frame-decode-one : OneResult frame-decode.Post
+frame-decode-one κs a r r′ s s′ = one-result
+
+pub frame-number-frame-fault-one : OneResult frame-number-frame-fault.Post
+frame-number-frame-fault-one κs a r r′ s s′ = one-result
+
+pub frame-number-fault-one : OneResult frame-number-fault.Post
+frame-number-fault-one κs a r r′ s s′ = one-result
+
+pub setup-setup-ok-one : OneResult setup-setup-ok.Post
+setup-setup-ok-one κs a r r′ s s′ = one-result
+
+pub entry-entry-of-one : OneResult entry-entry-of.Post
+entry-entry-of-one κs a r r′ s s′ = one-result
+
+pub entry-count-places-one : OneResult entry-count-places.Post
+entry-count-places-one κs a r r′ s s′ = one-result
+
+pub entry-at-most-one : OneResult entry-at-most.Post
+entry-at-most-one κs a r r′ s s′ = one-result
+
+pub entry-within-one : OneResult entry-within.Post
+entry-within-one κs a r r′ s s′ = one-result
+
+pub entry-entry-ok-one : OneResult entry-entry-ok.Post
+entry-entry-ok-one κs a r r′ s s′ = one-result
+
+pub table-entry-at-one : OneResult table-entry-at.Post
+table-entry-at-one κs a r r′ s s′ = one-result
+
+pub table-find-one : OneResult table-find.Post
+table-find-one κs a r r′ s s′ = one-result
+
+pub table-first-place-one : OneResult table-first-place.Post
+table-first-place-one κs a r r′ s s′ = one-result
+
+pub opening-open-one : OneResult opening-open.Post
+opening-open-one κs a r r′ s s′ = one-result
+
+pub net-read-area-one : OneResult net-read-area.Post
+net-read-area-one κs a r r′ s s′ = one-result
+
+pub net-read-process-one : OneResult net-read-process.Post
+net-read-process-one κs a r r′ s s′ = one-result
+
+pub task-task-of-one : OneResult task-task-of.Post
+task-task-of-one κs a r r′ s s′ = one-result
+
+pub task-page-of-one : OneResult task-page-of.Post
+task-page-of-one κs a r r′ s s′ = one-result
+
+pub task-nibble-of-one : OneResult task-nibble-of.Post
+task-nibble-of-one κs a r r′ s s′ = one-result
+
+pub task-full-number-one : OneResult task-full-number.Post
+task-full-number-one κs a r r′ s s′ = one-result
+
+pub task-number-error-one : OneResult task-number-error.Post
+task-number-error-one κs a r r′ s s′ = one-result
+
+pub task-judge-one : OneResult task-judge.Post
+task-judge-one κs a r r′ s s′ = one-result
+
+pub task-pick-element-one : OneResult task-pick-element.Post
+task-pick-element-one κs a r r′ s s′ = one-result
+
+pub broadcast-is-void-one : OneResult broadcast-is-void.Post
+broadcast-is-void-one κs a r r′ s s′ = one-result
+
+pub broadcast-merge-one : OneResult broadcast-merge.Post
+broadcast-merge-one κs a r r′ s s′ = one-result
+
+pub broadcast-command-control-one : OneResult broadcast-command-control.Post
+broadcast-command-control-one κs a r r′ s s′ = one-result
+
+pub request-can-ask-one : OneResult request-can-ask.Post
+request-can-ask-one κs a r r′ s s′ = one-result
+
+pub request-can-express-one : OneResult request-can-express.Post
+request-can-express-one κs a r r′ s s′ = one-result
+
+pub reply-read-one : OneResult reply-read.Post
+reply-read-one κs a r r′ s s′ = one-result
+
+pub text-count-digits-one : OneResult text-count-digits.Post
+text-count-digits-one κs a r r′ s s′ = one-result
+
+-- result and buffer
+pub store-put-one : OneResult store-put.Post
+store-put-one κs a r r′ s s′ p p′ = one-result (p .0) (p′ .0)
+
+pub store-put-buffer : OneExit store-put.Post (λ κs s. now (s .0))
+store-put-buffer κs a r r′ s s′ p p′ = one-result (p .1) (p′ .1)
+
+-- result and buffer
+pub net-seal-one : OneResult net-seal.Post
+net-seal-one κs a r r′ s s′ p p′ = one-result (p .0) (p′ .0)
+
+pub net-seal-buffer : OneExit net-seal.Post (λ κs s. now (s .0))
+net-seal-buffer κs a r r′ s s′ p p′ = one-result (p .1) (p′ .1)
+
+-- result and buffer
+pub net-write-normal-one : OneResult net-write-normal.Post
+net-write-normal-one κs a r r′ s s′ p p′ = one-result (p .0) (p′ .0)
+
+pub net-write-normal-buffer : OneExit net-write-normal.Post (λ κs s. now (s .0))
+net-write-normal-buffer κs a r r′ s s′ p p′ = one-result (p .1) (p′ .1)
+
+-- result and buffer
+pub text-put-number-one : OneResult text-put-number.Post
+text-put-number-one κs a r r′ s s′ p p′ = one-result (p .0) (p′ .0)
+
+pub text-put-number-buffer : OneExit text-put-number.Post (λ κs s. now (s .0))
+text-put-number-buffer κs a r r′ s s′ p p′ = one-result (p .1) (p′ .1)
+
+-- result and buffer
+pub listing-list-one : OneResult listing-list.Post
+listing-list-one κs a r r′ s s′ p p′ = one-result (p .0) (p′ .0)
+
+pub listing-list-buffer : OneExit listing-list.Post (λ κs s. now (s .1 .0))
+listing-list-buffer κs a r r′ s s′ p p′ = one-result (p .1) (p′ .1)
+
+-- answer, length, control words; values; reply buffer
+pub slave-serve-one : OneResult slave-serve.Post
+slave-serve-one κs a r r′ s s′ p p′ = one-result (p .answers) (p′ .answers)
+
+pub slave-serve-values : OneExit slave-serve.Post (λ κs s. now (s .1 .1 .0))
+slave-serve-values κs a r r′ s s′ p p′ = one-result (p .values-are) (p′ .values-are)
+
+pub slave-serve-buffer : OneExit slave-serve.Post (λ κs s. now (s .1 .1 .1 .1 .1 .1 .0))
+slave-serve-buffer κs a r r′ s s′ p p′ = one-result (p .reply-is) (p′ .reply-is)
+
+-- answer and length; buffer
+pub master-build-one : OneResult master-build.Post
+master-build-one κs a r r′ s s′ p p′ = one-result (p .answers) (p′ .answers)
+
+pub master-build-buffer : OneExit master-build.Post (λ κs s. now (s .1 .1 .1 .0))
+master-build-buffer κs a r r′ s s′ p p′ = one-result (p .bytes-are) (p′ .bytes-are)
