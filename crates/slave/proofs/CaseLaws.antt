@@ -52,7 +52,8 @@ module _ (node n : ℕ) (s : Setup) (t vs : List ℕ) (control status : Words) (
   unfolding normalCase
   normal-replied e h = rw (eq-eqb _ _ e, eq-eqb _ _ h)
 
-at-most-four : (x : ℕ) → (x ≡ 0) ⊎ ((x ≡ 3) ⊎ (x ≡ 4)) → x ≤ 4
+-- an area of a set-up that may be used has at most four words
+pub at-most-four : (x : ℕ) → (x ≡ 0) ⊎ ((x ≡ 3) ⊎ (x ≡ 4)) → x ≤ 4
 at-most-four x (inl e) = omega arith
 at-most-four x (inr (inl e)) = omega arith
 at-most-four x (inr (inr e)) = omega arith
