@@ -4,7 +4,7 @@ use mathlib.Core.Bool.{Bool, true, false, not, _&&_, cond, false≢true}
 use mathlib.Core.List.{List}
 use Prim.Native.Nat.{ℕ, _+_, _/_, _%_, _≤_, _<_}
 use native.Mathlib.Omega.{arith}
-use borrow.Author.Tests.{eqb-true, eqb-false, leb-false, lt-ltb, le-ltb}
+use borrow.Author.Tests.{eqb-true, eqb-false, leb-false, lt-ltb, le-ltb, not-false}
 use lib.Dec.{eqb, leb, lit<}
 use lib.ListN.{length}
 use Rattle.rows.proofs.RowsLaws.{row-passed}
@@ -17,14 +17,15 @@ use Rattle.table.specs.declared.Found.the-variants.{At, Nothing}
 use Rattle.table.specs.Records.{findIn, entryAt, entries, firstPlace, countsOf}
 use Rattle.table.proofs.RecordsLaws.{found-below, places-fit}
 use Rattle.task.specs.declared.Act.{Act}
+use Rattle.task.specs.declared.Act.the-variants.{Change}
 use Rattle.task.specs.declared.Width.{Width}
 use Rattle.task.specs.declared.Task.{Task}
 use Rattle.task.specs.declared.ParameterError.{ParameterError}
-use Rattle.task.specs.declared.ParameterError.the-variants.{NoTask, NoArray, NoElement, NoParameter}
+use Rattle.task.specs.declared.ParameterError.the-variants.{NoTask, NoArray, NoElement, NoParameter, OtherWidth, NoRoom, NotWritable, OutsideLimits}
 use Rattle.task.specs.declared.Verdict.{Verdict}
 use Rattle.task.specs.declared.Verdict.the-variants.{Granted, Denied}
 use Rattle.task.specs.Page.{baseOf, fullNumber, named}
-use Rattle.task.specs.Verdict.{refusesAct, noArray, noElement, verdictOf, elementOf}
+use Rattle.task.specs.Verdict.{refusesAct, noArray, noElement, otherWidth, noRoom, verdictOf, elementOf}
 use Rattle.slave.specs.Perform.{Performed, readReply, carried, errorArea, emptyArea, doneOf, verdictFor, performOn, performFound, performTask, foundOf, idle}
 
 pub read-reply-le : (reply : ℕ) (double : Bool) → reply ≤ 14 → readReply reply double ≤ 15
@@ -55,6 +56,19 @@ granted-element act width array elements double writable inside index n e =
     let p2 = row-passed isGranted (noArray array elements index) (Denied NoArray) _ refl (p1 .1) in
     let p3 = row-passed isGranted (noElement array elements index) (Denied NoElement) _ refl (p2 .1) in
     element-there array elements index (p3 .0)
+
+-- a granted change is within the limits
+pub granted-inside : (width : Width) (array : Bool) (elements : ℕ) (double writable inside : Bool) (index n : ℕ)
+    → verdictOf Change width array elements double writable inside index n ≡ Granted → inside ≡ true
+unfolding verdictOf isGranted
+granted-inside width array elements double writable inside index n e =
+    let p1 = row-passed isGranted (noArray array elements index) (Denied NoArray) _ refl (ap isGranted e) in
+    let p2 = row-passed isGranted (noElement array elements index) (Denied NoElement) _ refl (p1 .1) in
+    let p3 = row-passed isGranted (otherWidth width double) (Denied OtherWidth) _ refl (p2 .1) in
+    let p4 = row-passed isGranted (noRoom double n false) (Denied NoRoom) _ refl (p3 .1) in
+    let p5 = row-passed isGranted (not writable) (Denied NotWritable) _ refl (p4 .1) in
+    let p6 = row-passed isGranted (not inside) (Denied OutsideLimits) _ refl (p5 .1) in
+    not-false inside (p6 .0)
 
 -- ---- what is found is one of the records, and its places are among the values
 

@@ -1,0 +1,7 @@
+-- The theorems about the slave call.
+pub mod Cases
+pub mod Kept
+pub mod Answered
+pub mod Sequences
+pub mod Damaged
+pub mod Known

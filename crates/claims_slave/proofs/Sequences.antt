@@ -1,0 +1,71 @@
+-- Sequences of slave calls. Assumes nothing.
+--     striking-out      striking out the refused telegrams alters no other reply and no final state
+--     run-next          each call starts from what the last one left
+--     stays-open        where the opening check passes at the start, it passes after any sequence
+--     never-closed      and no call of it answers 20 to 23
+use Prim.Native.Nat.{ℕ, _<_}
+use mathlib.Core.Path.{_≡_, refl, sym, ap, subst, _∙_}
+use mathlib.Core.Bool.{Bool, true, false, cond}
+use mathlib.Core.List.{List, [], _∷_, _++_}
+use lib.Dec.{lit<}
+use lib.ListN.{length}
+use Rattle.words.specs.declared.Words.{Words}
+use Rattle.setup.specs.declared.Setup.{Setup}
+use Rattle.slave.specs.Slave.{Outcome, answerNumber, callOf}
+use Rattle.claims_slave.specs.Outcomes.{isRefused, Untouched}
+use Rattle.claims_slave.specs.Sequence.{State, Event, Seen, Run, Opens, callAt, seenOf, stepOf, runOf, strike, kept, EachSeen}
+use Rattle.claims_slave.proofs.Cases.{call-cases}
+use Rattle.claims_slave.proofs.Kept.{refused-keeps, opening-kept}
+
+-- a refused call leaves the state as it was
+module _ (s : Setup) (t : List ℕ) (q : State) (e : Event) where
+  pub refused-stays : isRefused (callAt s t q e .served .answer) ≡ true → stepOf s t q e ≡ q
+  refused-stays h =
+      let u = refused-keeps s t (q .values) (q .control) (e .status) (e .received) (q .buffer) h in
+      rw (u .values-stay, u .held, u .buffer-stays)
+
+-- Any set-up, table, state and events, with any status words at each call. Nothing is assumed of the opening check: where it
+-- does not pass, every call is refused, and all are struck out.
+pub striking-out : (s : Setup) (t : List ℕ) (q : State) (es : List Event)
+    → runOf s t q (strike s t q es) ≡ record { seen = kept (runOf s t q es .seen); last = runOf s t q es .last }
+unfolding runOf strike kept
+striking-out s t q [] = refl
+striking-out s t q (e ∷ es) = go (isRefused (callAt s t q e .served .answer)) refl (striking-out s t (stepOf s t q e) es)
+  where
+    next : State
+    next = stepOf s t q e
+
+    go : (b : Bool) → isRefused (callAt s t q e .served .answer) ≡ b
+        → runOf s t next (strike s t next es) ≡ record { seen = kept (runOf s t next es .seen); last = runOf s t next es .last }
+        → runOf s t q (strike s t q (e ∷ es)) ≡ record { seen = kept (runOf s t q (e ∷ es) .seen); last = runOf s t q (e ∷ es) .last }
+    go true r rest = rw r (ap (λ (x : State). runOf s t x (strike s t next es)) (sym (refused-stays s t q e r)) ∙ rest)
+    go false r rest = rw r (ap (λ (x : Run). record { seen = seenOf (callAt s t q e) ∷ x .seen; last = x .last }) rest)
+
+-- one more call starts from what the last one left
+pub run-next : (s : Setup) (t : List ℕ) (q : State) (es : List Event) (e : Event)
+    → runOf s t q (es ++ e ∷ [])
+    ≡ record { seen = runOf s t q es .seen ++ seenOf (callAt s t (runOf s t q es .last) e) ∷ []; last = stepOf s t (runOf s t q es .last) e }
+unfolding runOf
+run-next s t q [] e = refl
+run-next s t q (x ∷ es) e = ap (λ (r : Run). record { seen = seenOf (callAt s t q x) ∷ r .seen; last = r .last }) (run-next s t (stepOf s t q x) es e)
+
+-- ---- the opening check
+
+-- with an opening check that passes, a call answers below 20
+pub below-20 : (s : Setup) (t : List ℕ) (q : State) (e : Event) → Opens s t q → answerNumber (callAt s t q e .served .answer) < 20
+below-20 s t q e p =
+    call-cases s t (q .values) (q .control) (e .status) (e .received) (q .buffer) (λ o. answerNumber (o .served .answer) < 20)
+    (λ r b. b p) (λ o d l. lit< tt) (λ o d. lit< tt) (λ o d l v. lit< tt)
+
+pub step-opens : (s : Setup) (t : List ℕ) (q : State) (e : Event) → Opens s t q → Opens s t (stepOf s t q e)
+step-opens s t q e = opening-kept s t (q .values) (q .control) (e .status) (e .received) (q .buffer)
+
+pub stays-open : (s : Setup) (t : List ℕ) (q : State) (es : List Event) → Opens s t q → Opens s t (runOf s t q es .last)
+unfolding runOf
+stays-open s t q [] p = p
+stays-open s t q (e ∷ es) p = stays-open s t (stepOf s t q e) es (step-opens s t q e p)
+
+pub never-closed : (s : Setup) (t : List ℕ) (q : State) (es : List Event) → Opens s t q → EachSeen (λ x. answerNumber (x .answer) < 20) (runOf s t q es .seen)
+unfolding runOf
+never-closed s t q [] p = tt
+never-closed s t q (e ∷ es) p = (below-20 s t q e p, never-closed s t (stepOf s t q e) es (step-opens s t q e p))

@@ -1,0 +1,3 @@
+-- Outcomes of slave calls, and sequences of them.
+pub mod Outcomes
+pub mod Sequence

@@ -1,0 +1,98 @@
+-- What is said of one slave call, in document 01's words (Slave, Answer numbers).
+--     isRefused a                    an answer from 10 up
+--     mirrorOutcome ..               a mirror's: the reply is the telegram, and nothing else changes
+--     takenOutcome ..                a taken broadcast's: control words by the masks, and no reply
+--     sentBy o                       the reply: the buffer's first bytes, as many as the call reports
+--     Untouched o control vs out     reply length 0, the given control state, nothing written
+--     SoundReply s rx out o          a whole telegram of the task's node and lengths, and no other byte written
+--     SameReply rx out o             the received telegram, byte for byte, and no other byte written
+--     GrantedChange s t rx j         rx asks for a change of a value of record j, and no error applies
+--     placeIn s t rx j, valueIn s rx the place that it means, and the value that it carries
+--     FrameRefused o control vs out  refused with 10 to 14, and untouched
+use Prim.Native.Nat.{ℕ, _+_, _/_, _%_, _≤_}
+use mathlib.Core.Path.{_≡_}
+use mathlib.Core.Bool.{Bool, true, false}
+use mathlib.Core.List.{List}
+use lib.ListN.{length, take, drop}
+use Rattle.words.specs.declared.Words.{Words}
+use Rattle.setup.specs.declared.Setup.{Setup}
+use Rattle.frame.specs.Frame.{frameOf}
+use Rattle.frame.specs.Address.{decodedOf}
+use Rattle.frame.specs.declared.FrameCheck.the-variants.{Sound}
+use Rattle.frame.specs.declared.Decoded.the-variants.{Normal}
+use Rattle.slave.specs.declared.Answer.{Answer}
+use Rattle.slave.specs.declared.Answer.the-variants.{Replied, Mirrored, Taken, Refused}
+use Rattle.net.specs.declared.Area.{Area}
+use Rattle.net.specs.Read.{areaAt, processAt}
+use Rattle.table.specs.Records.{entryAt, firstPlace}
+use Rattle.table.specs.declared.Found.the-variants.{At}
+use Rattle.task.specs.declared.Act.the-variants.{Change}
+use Rattle.task.specs.declared.Task.{Task}
+use Rattle.task.specs.declared.Verdict.the-variants.{Granted}
+use Rattle.task.specs.Task.{taskOf}
+use Rattle.task.specs.Verdict.{elementOf}
+use Rattle.broadcast.specs.Broadcast.{controlAfter}
+use Rattle.slave.specs.Perform.{carried, verdictFor, foundOf}
+use Rattle.setup.specs.SetupRules.{netBytes}
+use Rattle.slave.specs.Slave.{Outcome, outcome, written, answerNumber, commandAt}
+
+abbrev pub isRefused : Answer → Bool
+isRefused Replied = false
+isRefused Mirrored = false
+isRefused Taken = false
+isRefused (Refused refusal) = true
+
+abbrev pub mirrorOutcome : Words → List ℕ → List ℕ → List ℕ → Outcome
+mirrorOutcome control vs rx out = outcome Mirrored (length rx) control vs (written out rx)
+
+abbrev pub takenOutcome : Setup → Words → List ℕ → List ℕ → List ℕ → Outcome
+takenOutcome s control vs rx out =
+    outcome Taken 0 (controlAfter (commandAt rx (s .pkw)) control (processAt rx (s .pkw) (s .pzd) control)) vs out
+
+abbrev pub sentBy : Outcome → List ℕ
+sentBy o = take (o .served .length) (o .reply)
+
+pub record Untouched (o : Outcome) (control : Words) (vs out : List ℕ) : Type 0 where
+  pub silent : o .served .length ≡ 0
+  pub held : o .served .control ≡ control
+  pub values-stay : o .values ≡ vs
+  pub buffer-stays : o .reply ≡ out
+
+-- behind the reply the buffer keeps its bytes
+pub record SoundReply (s : Setup) (rx out : List ℕ) (o : Outcome) : Type 0 where
+  pub passes : frameOf (sentBy o) ≡ Sound (3 + netBytes s)
+  pub reads : decodedOf (sentBy o) ≡ Normal (s .node) 3 (3 + netBytes s)
+  pub reported : o .served .length ≡ length (sentBy o)
+  pub as-long : o .served .length ≡ length rx
+  pub rest : drop (o .served .length) (o .reply) ≡ drop (o .served .length) out
+
+pub record SameReply (rx out : List ℕ) (o : Outcome) : Type 0 where
+  pub same : sentBy o ≡ rx
+  pub as-long : o .served .length ≡ length rx
+  pub rest : drop (o .served .length) (o .reply) ≡ drop (o .served .length) out
+
+pub record FrameRefused (o : Outcome) (control : Words) (vs out : List ℕ) : Type 0 where
+  pub refused : isRefused (o .served .answer) ≡ true
+  pub least : 10 ≤ answerNumber (o .served .answer)
+  pub most : answerNumber (o .served .answer) ≤ 14
+  pub untouched : Untouched o control vs out
+
+-- ---- a change that is made
+
+abbrev pub areaIn : Setup → List ℕ → Area
+areaIn s rx = areaAt rx (s .pkw)
+
+abbrev pub taskIn : Setup → List ℕ → Task
+taskIn s rx = taskOf (areaIn s rx .pke / 4096)
+
+pub record GrantedChange (s : Setup) (t rx : List ℕ) (j : ℕ) : Type 0 where
+  pub has-area : s .pkw ≡ 0 → ⊥
+  pub changes : taskIn s rx .act ≡ Change
+  pub found : foundOf t (areaIn s rx) ≡ At j
+  pub granted : verdictFor (s .pkw) (taskIn s rx) (areaIn s rx) (entryAt t j) ≡ Granted
+
+abbrev pub placeIn : Setup → List ℕ → List ℕ → ℕ → ℕ
+placeIn s t rx j = firstPlace t j + elementOf (taskIn s rx .array) (entryAt t j .elements) (areaIn s rx .ind % 256)
+
+abbrev pub valueIn : Setup → List ℕ → ℕ
+valueIn s rx = carried (taskIn s rx .width) (areaIn s rx .value)
