@@ -35,6 +35,9 @@ const BENCH_VALUES: [u32; 11] = [
     3,
 ];
 
+// K2: task 1, number 1082, words 047F 2000.
+const K2: [u8; 16] = *b"\x02\x0e\x03\x14\x3a\x00\x00\x00\x00\x00\x00\x04\x7f\x20\x00\x7a";
+
 // ---- answers
 
 fn opening_number(fault: OpeningFault) -> u64 {
@@ -308,7 +311,7 @@ fn open_table() {
         &mut values,
         &BENCH_VALUES,
         start_control(),
-        b"\x02\x0e\x03\x14\x3a\x00\x00\x00\x00\x00\x00\x04\x7f\x20\x00\x7a",
+        &K2,
         &mut reply,
     );
 }
@@ -323,7 +326,7 @@ fn open_values() {
         &mut values[..10],
         &BENCH_VALUES,
         start_control(),
-        b"\x02\x0e\x03\x14\x3a\x00\x00\x00\x00\x00\x00\x04\x7f\x20\x00\x7a",
+        &K2,
         &mut reply,
     );
 }
@@ -338,7 +341,7 @@ fn open_buffer() {
         &mut values,
         &BENCH_VALUES,
         start_control(),
-        b"\x02\x0e\x03\x14\x3a\x00\x00\x00\x00\x00\x00\x04\x7f\x20\x00\x7a",
+        &K2,
         &mut reply,
     );
 }
@@ -456,12 +459,7 @@ fn run_drive_changes() {
 
 fn run_known() {
     // K2
-    ask(
-        3,
-        4,
-        2,
-        b"\x02\x0e\x03\x14\x3a\x00\x00\x00\x00\x00\x00\x04\x7f\x20\x00\x7a",
-    );
+    ask(3, 4, 2, &K2);
     // K2 ending 7B
     ask(
         3,
@@ -769,19 +767,9 @@ fn run_broadcasts() {
 
 fn run_set_ups() {
     // 20 node 32
-    ask(
-        32,
-        4,
-        2,
-        b"\x02\x0e\x03\x14\x3a\x00\x00\x00\x00\x00\x00\x04\x7f\x20\x00\x7a",
-    );
+    ask(32, 4, 2, &K2);
     // 20 PKW 2
-    ask(
-        3,
-        2,
-        2,
-        b"\x02\x0e\x03\x14\x3a\x00\x00\x00\x00\x00\x00\x04\x7f\x20\x00\x7a",
-    );
+    ask(3, 2, 2, &K2);
     // 20 both 0
     ask(3, 0, 0, b"");
     // 20 PZD 5
