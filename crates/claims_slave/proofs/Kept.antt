@@ -94,7 +94,7 @@ module _ (s : Setup) (t vs : List ℕ) (room : ℕ) (passed : openingOf s t vs r
       go Granted g = rw g (act-keeps n (k .act) (k .width) (k .array) (k .reply) a j below g)
       go (Denied error) g = rw g passed
 
-  pub task-keeps : (n : ℕ) (rx : List ℕ) → Stays (taskDone n t vs rx .values)
+  task-keeps : (n : ℕ) (rx : List ℕ) → Stays (taskDone n t vs rx .values)
   unfolding taskDone performOf
   task-keeps n rx = go (eqb n 0)
     where

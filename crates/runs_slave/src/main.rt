@@ -412,6 +412,7 @@ fn main() {
     run_pages();
     run_errors_4();
     run_errors_3();
+    run_errors_double();
     run_process();
     run_mirrors();
     run_frames();
@@ -600,6 +601,21 @@ fn run_errors_3() {
     bench(3, 0x9000, 0x1000, 0);
     // 0, 3 words
     bench(3, 0x143b, 0x0000, 0);
+}
+
+fn run_errors_double() {
+    // 106 task 10 on a double
+    bench(4, 0xa7cf, 0x0000, 0);
+    // 106 task 5 on a word, 3 words
+    bench(3, 0x543a, 0x0000, 0);
+    // 4 double, index 2
+    bench(4, 0x67cf, 0x0002, 0);
+    // 4 double, index 2, before 102
+    bench(3, 0x87cf, 0x0002, 0);
+    // 3 double, index 3
+    bench(4, 0x8000, 0x1003, 0);
+    // 1 double not writable, save
+    bench(4, 0xd001, 0x4000, 1);
 }
 
 fn run_process() {
