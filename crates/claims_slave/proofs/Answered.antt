@@ -6,43 +6,35 @@
 --     mirror-same         a mirror's reply is the received telegram, byte for byte
 --     change-stored       a granted change stores the value that it carries at the place that it means, and nowhere else
 --     control-replaced    with bit 10, the first PZD control words are those received
-use Prim.Native.Nat.{ℕ, _+_, _-_, _*_, _/_, _%_, _≤_, _<_}
-use mathlib.Core.Path.{_≡_, refl, sym, ap, subst, _∙_}
+use Prim.Native.Nat.{ℕ, _+_, _-_, _/_, _%_, _≤_, _<_}
+use mathlib.Core.Path.{_≡_, refl, sym, ap, _∙_}
 use mathlib.Core.Logic.{_↔_}
-use mathlib.Core.Bool.{Bool, true, false, not, _&&_, cond, false≢true}
-use mathlib.Core.List.{List, _++_}
+use mathlib.Core.Bool.{false, false≢true}
+use mathlib.Core.List.{List}
 use native.Mathlib.Omega.{arith}
 use borrow.Author.Tests.{lt-leb, eq-eqb, ne-eqb}
-use lib.Dec.{eqb}
-use lib.ListN.{length, getD, take, drop, set}
-use lib.Seq.{take-at, drop-at, getD-set-same}
+use lib.ListN.{length, take, drop, set}
+use lib.Seq.{take-at, drop-at}
 use Rattle.words.specs.declared.Words.{Words}
 use Rattle.setup.specs.declared.Setup.{Setup}
 use Rattle.setup.proofs.SetupLaws.{configured, area-few}
 use Rattle.table.specs.Records.{entryAt, entries, firstPlace}
 use Rattle.table.proofs.RecordsLaws.{places-fit}
-use Rattle.table.specs.declared.Found.{Found}
-use Rattle.table.specs.declared.Found.the-variants.{At}
 use Rattle.frame.specs.Frame.{frameOf, lastOf}
-use Rattle.frame.specs.Address.{addressOf, kindOf, decodedFrom, decodedOf}
+use Rattle.frame.specs.Address.{addressOf, kindOf, decodedOf}
 use Rattle.frame.specs.declared.Address.{Address}
 use Rattle.frame.specs.declared.Address.the-variants.{ToOne}
-use Rattle.frame.specs.declared.FrameCheck.{FrameCheck}
 use Rattle.frame.specs.declared.FrameCheck.the-variants.{Sound}
-use Rattle.frame.specs.declared.Decoded.{Decoded}
 use Rattle.frame.specs.declared.Decoded.the-variants.{Normal, Mirror, Broadcast}
 use Rattle.frame.proofs.DecodedLaws.{telegram-framed, normal-bounds}
 use Rattle.opening.specs.Answers.{openingOf}
 use Rattle.opening.specs.declared.Opening.the-variants.{Passed}
 use Rattle.opening.proofs.AnswersLaws.{opened}
-use Rattle.net.specs.declared.Area.{Area}
 use Rattle.net.specs.Net.{netOf}
-use Rattle.net.specs.Read.{areaAt, processAt}
-use Rattle.net.specs.Telegram.{telegramOf}
+use Rattle.net.specs.Read.{processAt}
 use Rattle.net.proofs.NetLaws.{length-net}
 use Rattle.net.proofs.SealLaws.{passes}
 use Rattle.broadcast.specs.Broadcast.{isVoid}
-use Rattle.slave.specs.declared.Answer.{Answer}
 use Rattle.slave.specs.declared.Answer.the-variants.{Replied, Mirrored, Taken}
 use Rattle.setup.specs.SetupRules.{netBytes}
 use Rattle.slave.specs.Slave.{Outcome, answerNumber, written, firstWord, commandAt, taskDone, replyOf, controlTaken, normalOutcome, mirrorCase, callOf}
@@ -50,7 +42,7 @@ use Rattle.slave.proofs.CaseLaws.{normal-replied, broadcast-taken, executed, ca
 use Rattle.task.specs.declared.Act.{Act}
 use Rattle.slave.specs.Perform.{idle, doneOf, performOf}
 use Rattle.slave.proofs.PerformLaws.{task-granted, granted-place}
-use Rattle.claims_slave.specs.Outcomes.{isRefused, mirrorOutcome, takenOutcome, sentBy, SoundReply, SameReply, areaIn, taskIn, GrantedChange, placeIn, valueIn}
+use Rattle.claims_slave.specs.Outcomes.{isRefused, mirrorOutcome, takenOutcome, SoundReply, SameReply, areaIn, taskIn, GrantedChange, placeIn, valueIn}
 use Rattle.claims_slave.proofs.Cases.{call-cases}
 use Rattle.claims_slave.proofs.Kept.{reply-long, found-is}
 

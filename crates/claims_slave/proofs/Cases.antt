@@ -1,8 +1,8 @@
 -- What a slave call can be: one refusal, or one of the three answers with the tests that led to it. Assumes nothing.
 --     call-cases        what holds of a refusal and of the three answers holds of the call; with an opening check that passes,
 --                       a refusal is none of 20 to 23
-use Prim.Native.Nat.{ℕ, _+_, _-_, _<_}
-use mathlib.Core.Path.{_≡_, refl, sym, ap, subst, _∙_}
+use Prim.Native.Nat.{ℕ, _-_, _<_}
+use mathlib.Core.Path.{_≡_, refl, sym, ap, _∙_}
 use mathlib.Core.Bool.{Bool, true, false, false≢true}
 use mathlib.Core.List.{List}
 use borrow.Author.Tests.{eqb-true}
@@ -26,7 +26,7 @@ use Rattle.broadcast.specs.Broadcast.{isVoid}
 use Rattle.slave.specs.declared.Refusal.{Refusal}
 use Rattle.slave.specs.declared.Refusal.the-variants.{AtOpening, InTelegram, OtherNode, OtherLength, VoidBroadcast}
 use Rattle.setup.specs.SetupRules.{netBytes}
-use Rattle.slave.specs.Slave.{Outcome, refusalNumber, refusedOf, firstWord, commandAt, normalOutcome, normalCase, mirrorCase, broadcastCase, executeDecoded, callOpened, callOf}
+use Rattle.slave.specs.Slave.{Outcome, refusalNumber, refusedOf, firstWord, commandAt, normalOutcome, normalCase, mirrorCase, broadcastCase, executeDecoded, callOf}
 use Rattle.slave.proofs.CaseLaws.{executed, called}
 use Rattle.claims_slave.specs.Outcomes.{mirrorOutcome, takenOutcome}
 

@@ -2,9 +2,8 @@
 -- 10 to 14, and changes nothing. Assumes nothing.
 --     damaged-refused     any damage that is not unseen
 --     odd-refused, one-byte-refused, burst-refused, first-hit-refused, second-hit-refused     its kinds
-use Prim.Native.Nat.{ℕ, _+_, _%_, _≤_, _<_}
-use mathlib.Core.Path.{_≡_, refl, sym, ap, _∙_}
-use mathlib.Core.Bool.{Bool, true, false}
+use Prim.Native.Nat.{ℕ, _%_, _<_}
+use mathlib.Core.Path.{_≡_, refl, ap}
 use mathlib.Core.List.{List}
 use lib.ListN.{length}
 use Rattle.words.specs.Words.{byteAt}
@@ -18,7 +17,7 @@ use Rattle.opening.specs.Answers.{openingOf}
 use Rattle.opening.specs.declared.Opening.the-variants.{Passed}
 use Rattle.claims_damage.specs.Damage.{Refuses, damaged, Damage, flips, Unseen, Hit, OneByte, Order, Burst}
 use Rattle.claims_damage.proofs.Seen.{exact, refuses, odd, one-byte, burst, first-hit, second-hit}
-use Rattle.slave.specs.Slave.{Outcome, callOf}
+use Rattle.slave.specs.Slave.{callOf}
 use Rattle.slave.proofs.CaseLaws.{executed, called}
 use Rattle.claims_slave.specs.Outcomes.{FrameRefused}
 

@@ -2,25 +2,23 @@
 --     refused-keeps     a refused call leaves values, control words and reply buffer as they were, and reports length 0
 --     opening-kept      after a call that passed the opening check, the next one passes it too
 --     buffer-kept       a call that passed the opening check leaves a buffer of the same length
-use Prim.Native.Nat.{ℕ, _+_, _-_, _*_, _/_, _%_, _≤_, _<_}
-use mathlib.Core.Path.{_≡_, refl, sym, ap, subst, _∙_}
-use mathlib.Core.Bool.{Bool, true, false, not, _&&_, cond, false≢true}
-use mathlib.Core.List.{List, _++_}
+use Prim.Native.Nat.{ℕ, _+_, _-_, _/_, _%_, _≤_, _<_}
+use mathlib.Core.Path.{_≡_, refl}
+use mathlib.Core.Bool.{Bool, true, false, cond, false≢true}
+use mathlib.Core.List.{List}
 use native.Mathlib.Omega.{arith}
 use lib.Dec.{eqb}
-use lib.ListN.{length, drop, set, length-append, length-drop}
+use lib.ListN.{length, drop, length-append, length-drop}
 use Rattle.words.specs.declared.Words.{Words}
 use Rattle.setup.specs.declared.Setup.{Setup}
-use Rattle.setup.proofs.SetupLaws.{Configured, configured, area-few}
-use Rattle.entry.specs.declared.Entry.{Entry}
+use Rattle.setup.proofs.SetupLaws.{configured, area-few}
 use Rattle.entry.specs.Fields.{countOf}
 use Rattle.entry.specs.Limits.{isWithin}
 use Rattle.table.specs.Records.{entryAt, entries, findIn, firstPlace}
 use Rattle.table.specs.declared.Found.{Found}
 use Rattle.table.specs.declared.Found.the-variants.{At, Nothing}
 use Rattle.table.proofs.RecordsLaws.{found-below}
-use Rattle.frame.specs.Address.{decodedOf}
-use Rattle.frame.specs.declared.Decoded.the-variants.{Normal, Mirror}
+use Rattle.frame.specs.declared.Decoded.the-variants.{Mirror}
 use Rattle.frame.proofs.DecodedLaws.{telegram-framed}
 use Rattle.opening.specs.Answers.{openingOf}
 use Rattle.opening.specs.declared.Opening.the-variants.{Passed}
@@ -40,10 +38,9 @@ use Rattle.task.specs.declared.Verdict.the-variants.{Granted, Denied}
 use Rattle.task.specs.Task.{taskOf}
 use Rattle.task.specs.Page.{fullNumber, named}
 use Rattle.task.specs.Verdict.{verdictOf, elementOf}
-use Rattle.slave.specs.declared.Refusal.{Refusal}
-use Rattle.slave.specs.Perform.{Performed, carried, emptyArea, doneOf, answered, verdictFor, performOn, performFound, performTask, foundOf, idle, performOf}
+use Rattle.slave.specs.Perform.{carried, emptyArea, doneOf, verdictFor, performOn, performFound, foundOf, idle, performOf}
 use Rattle.setup.specs.SetupRules.{netBytes}
-use Rattle.slave.specs.Slave.{Outcome, refusedOf, written, taskDone, replyOf, normalOutcome, callOf}
+use Rattle.slave.specs.Slave.{Outcome, written, taskDone, replyOf, callOf}
 use Rattle.slave.proofs.PerformLaws.{granted-element, granted-inside}
 use Rattle.claims_slave.specs.Outcomes.{isRefused, Untouched}
 use Rattle.claims_slave.proofs.Cases.{call-cases}
@@ -97,7 +94,7 @@ module _ (s : Setup) (t vs : List ℕ) (room : ℕ) (passed : openingOf s t vs r
       go Granted g = rw g (act-keeps n (k .act) (k .width) (k .array) (k .reply) a j below g)
       go (Denied error) g = rw g passed
 
-  pub task-keeps : (n : ℕ) (rx : List ℕ) → Stays (taskDone n t vs rx .values)
+  task-keeps : (n : ℕ) (rx : List ℕ) → Stays (taskDone n t vs rx .values)
   unfolding taskDone performOf
   task-keeps n rx = go (eqb n 0)
     where

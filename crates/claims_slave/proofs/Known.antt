@@ -3,9 +3,8 @@
 -- Assumes nothing.
 use Prim.Native.Nat.{ℕ}
 use mathlib.Core.Path.{_≡_, refl}
-use mathlib.Core.Bool.{Bool, true, false}
 use mathlib.Core.List.{List, [], _∷_, map}
-use lib.ListN.{length, replicate}
+use lib.ListN.{replicate}
 use Rattle.words.specs.declared.Words.{Words}
 use Rattle.setup.specs.declared.Setup.{Setup}
 use Rattle.setup.specs.SetupRules.{setupOk}

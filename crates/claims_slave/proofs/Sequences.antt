@@ -4,16 +4,14 @@
 --     stays-open        where the opening check passes at the start, it passes after any sequence
 --     never-closed      and no call of it answers 20 to 23
 use Prim.Native.Nat.{ℕ, _<_}
-use mathlib.Core.Path.{_≡_, refl, sym, ap, subst, _∙_}
-use mathlib.Core.Bool.{Bool, true, false, cond}
+use mathlib.Core.Path.{_≡_, refl, sym, ap, _∙_}
+use mathlib.Core.Bool.{Bool, true, false}
 use mathlib.Core.List.{List, [], _∷_, _++_}
 use lib.Dec.{lit<}
-use lib.ListN.{length}
-use Rattle.words.specs.declared.Words.{Words}
 use Rattle.setup.specs.declared.Setup.{Setup}
-use Rattle.slave.specs.Slave.{Outcome, answerNumber, callOf}
-use Rattle.claims_slave.specs.Outcomes.{isRefused, Untouched}
-use Rattle.claims_slave.specs.Sequence.{State, Event, Seen, Run, Opens, callAt, seenOf, stepOf, runOf, strike, kept, EachSeen}
+use Rattle.slave.specs.Slave.{answerNumber}
+use Rattle.claims_slave.specs.Outcomes.{isRefused}
+use Rattle.claims_slave.specs.Sequence.{State, Event, Run, Opens, callAt, seenOf, stepOf, runOf, strike, kept, EachSeen}
 use Rattle.claims_slave.proofs.Cases.{call-cases}
 use Rattle.claims_slave.proofs.Kept.{refused-keeps, opening-kept}
 

@@ -1,7 +1,8 @@
-// Runs the slave call on telegrams of documents 000, 002 and 01, and writes a line for each: a label, document 01's answer number,
-// the reply's length and bytes, the control words, and each value place that is not as it was, with its value.
+// Runs the slave call on telegrams of documents 000, 002 and 01, and writes a line for each: the set-up, the received bytes, document
+// 01's answer number, the reply's length and bytes, the control words, and each value place that is not as it was.
 use frame::Fault;
 use frame::FrameFault;
+use net::Area;
 use opening::OpeningFault;
 use setup::Setup;
 use slave::Answer;
@@ -33,6 +34,9 @@ const BENCH_VALUES: [u32; 11] = [
     0x11170,
     3,
 ];
+
+// K2: task 1, number 1082, words 047F 2000.
+const K2: [u8; 16] = *b"\x02\x0e\x03\x14\x3a\x00\x00\x00\x00\x00\x00\x04\x7f\x20\x00\x7a";
 
 // ---- answers
 
@@ -102,9 +106,6 @@ fn print_byte(b: u8) {
 
 // The first n bytes.
 fn print_bytes(bytes: &[u8], n: usize) {
-    if n != 0 {
-        io::write_all(1, b" ");
-    }
     for i in 0..bytes.len() {
         if i < n {
             print_byte(bytes[i]);
@@ -130,12 +131,23 @@ fn print_changes(values: &[u32], old: &[u32]) {
     }
 }
 
-fn print_answer(label: &[u8], number: u64, length: usize) {
-    io::write_all(1, label);
+fn print_setup(setup: Setup) {
+    io::print_decimal(1, setup.node as u64);
+    io::write_all(1, b" ");
+    io::print_decimal(1, setup.pkw as u64);
+    io::write_all(1, b" ");
+    io::print_decimal(1, setup.pzd as u64);
+    io::write_all(1, b" ");
+}
+
+fn print_answer(number: u64, length: usize) {
     io::write_all(1, b": ");
     io::print_decimal(1, number);
     io::write_all(1, b", ");
     io::print_decimal(1, length as u64);
+    if length != 0 {
+        io::write_all(1, b" ");
+    }
 }
 
 // ---- calls
@@ -160,7 +172,6 @@ fn status() -> Words {
 
 // One call, and its line: the control words that it leaves.
 fn call(
-    label: &[u8],
     setup: Setup,
     table: &[u8],
     values: &mut [u32],
@@ -172,7 +183,9 @@ fn call(
     let served = serve(setup, table, values, control, status(), received, reply);
     let next = served.control;
     let answer = served.answer;
-    print_answer(label, answer_number(answer), served.length);
+    print_setup(setup);
+    print_bytes(received, received.len());
+    print_answer(answer_number(answer), served.length);
     print_bytes(&reply[..], served.length);
     print_control(next);
     print_changes(&values[..], old);
@@ -181,16 +194,11 @@ fn call(
 }
 
 // One call on the drive's table, from its first values.
-fn drive(label: &[u8], pkw: u8, received: &[u8]) {
-    let setup = Setup {
-        node: 3,
-        pkw,
-        pzd: 2,
-    };
+fn ask_drive(node: u8, pkw: u8, pzd: u8, received: &[u8]) {
+    let setup = Setup { node, pkw, pzd };
     let mut values = DRIVE_VALUES;
     let mut reply = [0u8; 256];
     call(
-        label,
         setup,
         &DRIVE,
         &mut values,
@@ -201,13 +209,12 @@ fn drive(label: &[u8], pkw: u8, received: &[u8]) {
     );
 }
 
-// One call on the other table, from its first values.
-fn bench(label: &[u8], node: u8, pkw: u8, pzd: u8, received: &[u8]) {
+// One call on the bench's table, from its first values.
+fn ask(node: u8, pkw: u8, pzd: u8, received: &[u8]) {
     let setup = Setup { node, pkw, pzd };
     let mut values = BENCH_VALUES;
     let mut reply = [0u8; 256];
     call(
-        label,
         setup,
         &BENCH,
         &mut values,
@@ -218,6 +225,55 @@ fn bench(label: &[u8], node: u8, pkw: u8, pzd: u8, received: &[u8]) {
     );
 }
 
+// The telegram of an area of pkw words and two process words, written into t: its length.
+fn build(t: &mut [u8], adr: u8, pkw: u8, area: Area, w1: u16, w2: u16) -> usize {
+    let process = Words {
+        w1,
+        w2,
+        w3: 0,
+        w4: 0,
+    };
+    net::write_normal(t, adr, area, pkw, process, 2)
+}
+
+// One call with the first n bytes, on the drive's table or on the bench's.
+fn ask_first(of_drive: bool, pkw: u8, t: &[u8], n: usize) {
+    if t.len() < n {
+        return;
+    }
+    if of_drive {
+        ask_drive(3, pkw, 2, &t[..n]);
+    } else {
+        ask(3, pkw, 2, &t[..n]);
+    }
+}
+
+// A task with the words 047F 2000, to the drive.
+fn drive(pkw: u8, pke: u16, ind: u16, value: u32) {
+    let mut t = [0u8; 256];
+    let n = build(&mut t, 3, pkw, Area { pke, ind, value }, 0x047f, 0x2000);
+    ask_first(true, pkw, &t, n);
+}
+
+// The same to the bench.
+fn bench(pkw: u8, pke: u16, ind: u16, value: u32) {
+    let mut t = [0u8; 256];
+    let n = build(&mut t, 3, pkw, Area { pke, ind, value }, 0x047f, 0x2000);
+    ask_first(false, pkw, &t, n);
+}
+
+// A broadcast to the bench: selector, first mask, the words after it, two process words.
+fn broadcast(pkw: u8, selector: u16, mask: u16, rest: u32, w1: u16, w2: u16) {
+    let mut t = [0u8; 256];
+    let area = Area {
+        pke: selector,
+        ind: mask,
+        value: rest,
+    };
+    let n = build(&mut t, 0x20, pkw, area, w1, w2);
+    ask_first(false, pkw, &t, n);
+}
+
 // A mirror telegram of 252 net bytes: LGE 254, 256 bytes in all.
 fn longest_mirror() {
     let mut t = [0x11u8; 256];
@@ -225,7 +281,7 @@ fn longest_mirror() {
     t[1] = 254;
     t[2] = 0x43;
     t[255] = 0xbf;
-    bench(b"252 net bytes", 3, 4, 2, &t);
+    ask(3, 4, 2, &t);
 }
 
 // LGE 255, with as many bytes as it says.
@@ -234,7 +290,7 @@ fn over_long() {
     t[0] = 2;
     t[1] = 255;
     t[2] = 3;
-    bench(b"12 LGE 255", 3, 4, 2, &t);
+    ask(3, 4, 2, &t);
 }
 
 fn usual() -> Setup {
@@ -250,13 +306,12 @@ fn open_table() {
     let mut values = BENCH_VALUES;
     let mut reply = [0u8; 256];
     call(
-        b"21 part of a record",
         usual(),
         &BENCH[..95],
         &mut values,
         &BENCH_VALUES,
         start_control(),
-        b"\x02\x0e\x03\x14\x3a\x00\x00\x00\x00\x00\x00\x04\x7f\x20\x00\x7a",
+        &K2,
         &mut reply,
     );
 }
@@ -266,13 +321,12 @@ fn open_values() {
     let mut values = BENCH_VALUES;
     let mut reply = [0u8; 256];
     call(
-        b"22 a value too few",
         usual(),
         &BENCH,
         &mut values[..10],
         &BENCH_VALUES,
         start_control(),
-        b"\x02\x0e\x03\x14\x3a\x00\x00\x00\x00\x00\x00\x04\x7f\x20\x00\x7a",
+        &K2,
         &mut reply,
     );
 }
@@ -282,13 +336,12 @@ fn open_buffer() {
     let mut values = BENCH_VALUES;
     let mut reply = [0u8; 255];
     call(
-        b"23 buffer 255",
         usual(),
         &BENCH,
         &mut values,
         &BENCH_VALUES,
         start_control(),
-        b"\x02\x0e\x03\x14\x3a\x00\x00\x00\x00\x00\x00\x04\x7f\x20\x00\x7a",
+        &K2,
         &mut reply,
     );
 }
@@ -298,8 +351,8 @@ fn run_sequence() {
     let mut values = BENCH_VALUES;
     let mut reply = [0u8; 256];
     let mut control = start_control();
+    // then change 1082
     control = call(
-        b"then change 1082",
         usual(),
         &BENCH,
         &mut values,
@@ -308,8 +361,8 @@ fn run_sequence() {
         b"\x02\x0e\x03\x24\x3a\x00\x00\x00\x00\x00\x2a\x0c\x7f\x30\x00\x78",
         &mut reply,
     );
+    // then broken
     control = call(
-        b"then broken",
         usual(),
         &BENCH,
         &mut values,
@@ -318,8 +371,8 @@ fn run_sequence() {
         b"\x02\x0e\x03\x24\x3a\x00\x00\x00\x00\x00\x2b\x04\x7f\x20\x00\x00",
         &mut reply,
     );
+    // then read 1082
     control = call(
-        b"then read 1082",
         usual(),
         &BENCH,
         &mut values,
@@ -328,8 +381,8 @@ fn run_sequence() {
         b"\x02\x0e\x03\x14\x3a\x00\x00\x00\x00\x00\x00\x00\x00\x99\x99\x21",
         &mut reply,
     );
+    // then broadcast
     control = call(
-        b"then broadcast",
         usual(),
         &BENCH,
         &mut values,
@@ -338,8 +391,8 @@ fn run_sequence() {
         b"\x02\x0e\x20\x00\x06\x04\x01\x00\x0f\x00\x00\x04\x00\x00\x0a\x2e",
         &mut reply,
     );
+    // then read element 1
     control = call(
-        b"then read element 1",
         usual(),
         &BENCH,
         &mut values,
@@ -359,6 +412,7 @@ fn main() {
     run_pages();
     run_errors_4();
     run_errors_3();
+    run_errors_double();
     run_process();
     run_mirrors();
     run_frames();
@@ -373,133 +427,84 @@ fn main() {
 }
 
 fn run_drive_reads() {
-    drive(
-        b"000 read P0700",
-        4,
-        b"\x02\x0e\x03\x12\xbc\x00\x00\x00\x00\x00\x00\x04\x7f\x20\x00\xfa",
-    );
-    drive(
-        b"000 read P1082",
-        4,
-        b"\x02\x0e\x03\x14\x3a\x00\x00\x00\x00\x00\x00\x04\x7f\x20\x00\x7a",
-    );
-    drive(
-        b"000 read P2000",
-        4,
-        b"\x02\x0e\x03\x10\x00\x80\x00\x00\x00\x00\x00\x04\x7f\x20\x00\xc4",
-    );
-    drive(
-        b"000 read P2010 index 1",
-        4,
-        b"\x02\x0e\x03\x10\x0a\x80\x01\x00\x00\x00\x00\x04\x7f\x20\x00\xcf",
-    );
-    drive(
-        b"element 1 of P2010",
-        4,
-        b"\x02\x0e\x03\x60\x0a\x80\x01\x00\x00\x00\x00\x04\x7f\x20\x00\xbf",
-    );
-    drive(
-        b"elements of P2010",
-        4,
-        b"\x02\x0e\x03\x90\x0a\x80\xff\x00\x00\x00\x00\x04\x7f\x20\x00\xb1",
-    );
-    drive(
-        b"000 read P0700, 3 words",
-        3,
-        b"\x02\x0c\x03\x12\xbc\x00\x00\x00\x00\x04\x7f\x20\x00\xf8",
-    );
+    // 000 read P0700
+    drive(4, 0x12bc, 0x0000, 0);
+    // 000 read P1082
+    drive(4, 0x143a, 0x0000, 0);
+    // 000 read P2000
+    drive(4, 0x1000, 0x8000, 0);
+    // 000 read P2010 index 1
+    drive(4, 0x100a, 0x8001, 0);
+    // element 1 of P2010
+    drive(4, 0x600a, 0x8001, 0);
+    // elements of P2010
+    drive(4, 0x900a, 0x80ff, 0);
+    // 000 read P0700, 3 words
+    drive(3, 0x12bc, 0x0000, 0);
 }
 
 fn run_drive_changes() {
-    drive(
-        b"000 change P1082",
-        4,
-        b"\x02\x0e\x03\x34\x3a\x00\x00\x42\x20\x00\x00\x04\x7f\x20\x00\x38",
-    );
-    drive(
-        b"000 change P1082 as a word",
-        4,
-        b"\x02\x0e\x03\x24\x3a\x00\x00\x42\x20\x00\x00\x04\x7f\x20\x00\x28",
-    );
-    drive(
-        b"000 change and save P1082",
-        4,
-        b"\x02\x0e\x03\xd4\x3a\x00\x00\x42\x20\x00\x00\x04\x7f\x20\x00\xd8",
-    );
-    drive(
-        b"000 change P0700",
-        4,
-        b"\x02\x0e\x03\x22\xbc\x00\x00\x00\x00\x00\x05\x04\x7f\x20\x00\xcf",
-    );
-    drive(
-        b"000 change P0700, 3 words",
-        3,
-        b"\x02\x0c\x03\x22\xbc\x00\x00\x00\x05\x04\x7f\x20\x00\xcd",
-    );
-    drive(
-        b"002 change P554 index 1",
-        4,
-        b"\x02\x0e\x03\xc2\x2a\x00\x01\x00\x00\x21\x00\x04\x7f\x20\x00\x9c",
-    );
-    drive(
-        b"000 words 047E 3333",
-        4,
-        b"\x02\x0e\x03\x00\x00\x00\x00\x00\x00\x00\x00\x04\x7e\x33\x33\x75",
-    );
+    // 000 change P1082
+    drive(4, 0x343a, 0x0000, 0x42200000);
+    // 000 change P1082 as a word
+    drive(4, 0x243a, 0x0000, 0x42200000);
+    // 000 change and save P1082
+    drive(4, 0xd43a, 0x0000, 0x42200000);
+    // 000 change P0700
+    drive(4, 0x22bc, 0x0000, 5);
+    // 000 change P0700, 3 words
+    drive(3, 0x22bc, 0x0000, 5);
+    // 002 change P554 index 1
+    drive(4, 0xc22a, 0x0001, 0x2100);
 }
 
 fn run_known() {
-    bench(
-        b"K2",
-        3,
-        4,
-        2,
-        b"\x02\x0e\x03\x14\x3a\x00\x00\x00\x00\x00\x00\x04\x7f\x20\x00\x7a",
-    );
-    bench(
-        b"K2 ending 7B",
+    // K2
+    ask(3, 4, 2, &K2);
+    // K2 ending 7B
+    ask(
         3,
         4,
         2,
         b"\x02\x0e\x03\x14\x3a\x00\x00\x00\x00\x00\x00\x04\x7f\x20\x00\x7b",
     );
-    bench(
-        b"K2 with LGE 0F",
+    // K2 with LGE 0F
+    ask(
         3,
         4,
         2,
         b"\x02\x0f\x03\x14\x3a\x00\x00\x00\x00\x00\x00\x04\x7f\x20\x00\x7a",
     );
-    bench(
-        b"K4 no such parameter",
+    // K4 no such parameter
+    ask(
         3,
         4,
         2,
         b"\x02\x0e\x03\x14\x3b\x00\x00\x00\x00\x00\x00\x04\x7f\x20\x00\x7b",
     );
-    bench(
-        b"K8 base 2000",
+    // K8 base 2000
+    ask(
         3,
         4,
         2,
         b"\x02\x0e\x03\x17\xd0\x00\x00\x00\x00\x00\x00\x04\x7f\x20\x00\x93",
     );
-    bench(
-        b"K9 broadcast",
+    // K9 broadcast
+    ask(
         3,
         4,
         2,
         b"\x02\x0e\x20\x00\x06\x04\x01\x00\x00\x00\x00\x04\x01\x20\x00\x0a",
     );
-    bench(
-        b"K10 broadcast",
+    // K10 broadcast
+    ask(
         3,
         4,
         2,
         b"\x02\x0e\x20\x00\x02\xff\xff\x00\x00\x00\x00\x04\x7f\x20\x00\x75",
     );
-    bench(
-        b"bits 11 of PKE and 11 to 8 of IND",
+    // bits 11 of PKE and 11 to 8 of IND
+    ask(
         3,
         4,
         2,
@@ -508,324 +513,146 @@ fn run_known() {
 }
 
 fn run_limits() {
-    bench(
-        b"K11 FF9C",
-        3,
-        4,
-        2,
-        b"\x02\x0e\x03\x20\x05\x00\x00\x00\x00\xff\x9c\x04\x7f\x20\x00\x12",
-    );
-    bench(
-        b"K11 FF9B",
-        3,
-        4,
-        2,
-        b"\x02\x0e\x03\x20\x05\x00\x00\x00\x00\xff\x9b\x04\x7f\x20\x00\x15",
-    );
-    bench(
-        b"K11 FF9C, 3 words",
-        3,
-        3,
-        2,
-        b"\x02\x0c\x03\xe0\x05\x00\x00\xff\x9c\x04\x7f\x20\x00\xd0",
-    );
-    bench(
-        b"K11 FF9B, 3 words",
-        3,
-        3,
-        2,
-        b"\x02\x0c\x03\x20\x05\x00\x00\xff\x9b\x04\x7f\x20\x00\x17",
-    );
-    bench(
-        b"double -5",
-        3,
-        4,
-        2,
-        b"\x02\x0e\x03\x80\x00\x10\x02\xff\xff\xff\xfb\x04\x7f\x20\x00\xc2",
-    );
-    bench(
-        b"double -6",
-        3,
-        4,
-        2,
-        b"\x02\x0e\x03\x80\x00\x10\x02\xff\xff\xff\xfa\x04\x7f\x20\x00\xc3",
-    );
-    bench(
-        b"word with a PWE1",
-        3,
-        4,
-        2,
-        b"\x02\x0e\x03\x24\x3a\x00\x00\xff\xff\x00\x05\x04\x7f\x20\x00\x4f",
-    );
+    // K11 FF9C
+    bench(4, 0x2005, 0x0000, 0xff9c);
+    // K11 FF9B
+    bench(4, 0x2005, 0x0000, 0xff9b);
+    // K11 FF9C, 3 words
+    bench(3, 0xe005, 0x0000, 0xff9c);
+    // K11 FF9B, 3 words
+    bench(3, 0x2005, 0x0000, 0xff9b);
+    // double -5
+    bench(4, 0x8000, 0x1002, 0xfffffffb);
+    // double -6
+    bench(4, 0x8000, 0x1002, 0xfffffffa);
+    // word with a PWE1
+    bench(4, 0x243a, 0x0000, 0xffff0005);
 }
 
 fn run_arrays() {
-    bench(
-        b"K12 index 1 without array",
-        3,
-        4,
-        2,
-        b"\x02\x0e\x03\x64\x3a\x00\x01\x00\x00\x00\x00\x04\x7f\x20\x00\x0b",
-    );
-    bench(
-        b"K12 index 2 without array",
-        3,
-        4,
-        2,
-        b"\x02\x0e\x03\x64\x3a\x00\x02\x00\x00\x00\x00\x04\x7f\x20\x00\x08",
-    );
-    bench(
-        b"K12 two elements, 1",
-        3,
-        4,
-        2,
-        b"\x02\x0e\x03\x70\x00\x80\x01\x00\x00\x00\x21\x04\x7f\x20\x00\x84",
-    );
-    bench(
-        b"K12 two elements, 2",
-        3,
-        4,
-        2,
-        b"\x02\x0e\x03\x70\x00\x80\x02\x00\x00\x00\x21\x04\x7f\x20\x00\x87",
-    );
-    bench(
-        b"index 2 without array, 3 words",
-        3,
-        3,
-        2,
-        b"\x02\x0c\x03\xc4\x3a\x00\x02\x00\x21\x04\x7f\x20\x00\x8b",
-    );
-    bench(
-        b"two elements, 2, 3 words",
-        3,
-        3,
-        2,
-        b"\x02\x0c\x03\x60\x00\x80\x02\x00\x00\x04\x7f\x20\x00\xb4",
-    );
-    bench(
-        b"array of one, index 1",
-        3,
-        4,
-        2,
-        b"\x02\x0e\x03\x67\xcf\xf0\x01\x00\x00\x00\x00\x04\x7f\x20\x00\x0d",
-    );
-    bench(
-        b"elements of an array of one",
-        3,
-        3,
-        2,
-        b"\x02\x0c\x03\x97\xcf\xf0\xff\x00\x00\x04\x7f\x20\x00\x01",
-    );
+    // K12 index 1 without array
+    bench(4, 0x643a, 0x0001, 0);
+    // K12 index 2 without array
+    bench(4, 0x643a, 0x0002, 0);
+    // K12 two elements, 1
+    bench(4, 0x7000, 0x8001, 0x21);
+    // K12 two elements, 2
+    bench(4, 0x7000, 0x8002, 0x21);
+    // index 2 without array, 3 words
+    bench(3, 0xc43a, 0x0002, 0x21);
+    // two elements, 2, 3 words
+    bench(3, 0x6000, 0x8002, 0);
+    // array of one, index 1
+    bench(4, 0x67cf, 0xf001, 0);
+    // elements of an array of one
+    bench(3, 0x97cf, 0xf0ff, 0);
 }
 
 fn run_pages() {
-    bench(
-        b"1999",
-        3,
-        4,
-        2,
-        b"\x02\x0e\x03\x17\xcf\x00\x00\x00\x00\x00\x00\x04\x7f\x20\x00\x8c",
-    );
-    bench(
-        b"2000",
-        3,
-        4,
-        2,
-        b"\x02\x0e\x03\x10\x00\x80\x00\x00\x00\x00\x00\x04\x7f\x20\x00\xc4",
-    );
-    bench(
-        b"4000, save element 1",
-        3,
-        4,
-        2,
-        b"\x02\x0e\x03\xb0\x00\x10\x01\x00\x00\x00\x04\x04\x7f\x20\x00\xf1",
-    );
-    bench(
-        b"16000",
-        3,
-        4,
-        2,
-        b"\x02\x0e\x03\x10\x00\x40\x00\x00\x00\x00\x00\x04\x7f\x20\x00\x04",
-    );
-    bench(
-        b"31999",
-        3,
-        4,
-        2,
-        b"\x02\x0e\x03\x67\xcf\xf0\x00\x00\x00\x00\x00\x04\x7f\x20\x00\x0c",
-    );
-    bench(
-        b"2000 by base 0 of page 0",
-        3,
-        4,
-        2,
-        b"\x02\x0e\x03\x10\x00\x00\x00\x00\x00\x00\x00\x04\x7f\x20\x00\x44",
-    );
-    bench(
-        b"task 0",
-        3,
-        4,
-        2,
-        b"\x02\x0e\x03\x0f\xff\xff\xff\x00\x01\x00\x02\x04\x7f\x20\x00\xa7",
-    );
+    // 1999
+    bench(4, 0x17cf, 0x0000, 0);
+    // 2000
+    bench(4, 0x1000, 0x8000, 0);
+    // 4000, save element 1
+    bench(4, 0xb000, 0x1001, 4);
+    // 16000
+    bench(4, 0x1000, 0x4000, 0);
+    // 31999
+    bench(4, 0x67cf, 0xf000, 0);
+    // 2000 by base 0 of page 0
+    bench(4, 0x1000, 0x0000, 0);
+    // task 0
+    bench(4, 0x0fff, 0xffff, 0x10002);
 }
 
 fn run_errors_4() {
-    bench(
-        b"106 task 4",
-        3,
-        4,
-        2,
-        b"\x02\x0e\x03\x44\x3a\x00\x00\x00\x00\x00\x00\x04\x7f\x20\x00\x2a",
-    );
-    bench(
-        b"106 task 15, 3 words",
-        3,
-        3,
-        2,
-        b"\x02\x0c\x03\xf7\xcf\x00\x00\x00\x00\x04\x7f\x20\x00\x6e",
-    );
-    bench(
-        b"0 before 106",
-        3,
-        4,
-        2,
-        b"\x02\x0e\x03\x54\x3b\x00\x00\x00\x00\x00\x00\x04\x7f\x20\x00\x3b",
-    );
-    bench(
-        b"5 double task on a word",
-        3,
-        4,
-        2,
-        b"\x02\x0e\x03\x34\x3a\x00\x00\x00\x00\x00\x01\x04\x7f\x20\x00\x5b",
-    );
-    bench(
-        b"5 word task on a double",
-        3,
-        4,
-        2,
-        b"\x02\x0e\x03\x27\xcf\x00\x00\x00\x00\x00\x01\x04\x7f\x20\x00\xbd",
-    );
-    bench(
-        b"1 word not writable",
-        3,
-        4,
-        2,
-        b"\x02\x0e\x03\x20\x00\x40\x00\x00\x00\x00\x01\x04\x7f\x20\x00\x35",
-    );
-    bench(
-        b"1 double not writable",
-        3,
-        4,
-        2,
-        b"\x02\x0e\x03\x30\x01\x40\x00\x00\x00\x00\x01\x04\x7f\x20\x00\x24",
-    );
-    bench(
-        b"2 double outside",
-        3,
-        4,
-        2,
-        b"\x02\x0e\x03\xd0\x00\x10\x00\x00\x00\x00\x06\x04\x7f\x20\x00\x92",
-    );
+    // 106 task 4
+    bench(4, 0x443a, 0x0000, 0);
+    // 106 task 15, 3 words
+    bench(3, 0xf7cf, 0x0000, 0);
+    // 0 before 106
+    bench(4, 0x543b, 0x0000, 0);
+    // 5 double task on a word
+    bench(4, 0x343a, 0x0000, 1);
+    // 5 word task on a double
+    bench(4, 0x27cf, 0x0000, 1);
+    // 1 word not writable
+    bench(4, 0x2000, 0x4000, 1);
+    // 1 double not writable
+    bench(4, 0x3001, 0x4000, 1);
+    // 2 double outside
+    bench(4, 0xd000, 0x1000, 6);
 }
 
 fn run_errors_3() {
-    bench(
-        b"102 read",
-        3,
-        3,
-        2,
-        b"\x02\x0c\x03\x17\xcf\x00\x00\x00\x00\x04\x7f\x20\x00\x8e",
-    );
-    bench(
-        b"102 change, not writable",
-        3,
-        3,
-        2,
-        b"\x02\x0c\x03\x30\x01\x40\x00\x00\x01\x04\x7f\x20\x00\x26",
-    );
-    bench(
-        b"5 before 102",
-        3,
-        3,
-        2,
-        b"\x02\x0c\x03\x27\xcf\x00\x00\x00\x01\x04\x7f\x20\x00\xbf",
-    );
-    bench(
-        b"5 double task on a word, 3 words",
-        3,
-        3,
-        2,
-        b"\x02\x0c\x03\xd4\x3a\x00\x00\x00\x01\x04\x7f\x20\x00\xb9",
-    );
-    bench(
-        b"1 not writable, 3 words",
-        3,
-        3,
-        2,
-        b"\x02\x0c\x03\x20\x00\x40\x00\x00\x01\x04\x7f\x20\x00\x37",
-    );
-    bench(
-        b"3 before 102",
-        3,
-        3,
-        2,
-        b"\x02\x0c\x03\x60\x00\x10\x03\x00\x00\x04\x7f\x20\x00\x25",
-    );
-    bench(
-        b"task 9 on a double, 3 words",
-        3,
-        3,
-        2,
-        b"\x02\x0c\x03\x90\x00\x10\x00\x00\x00\x04\x7f\x20\x00\xd6",
-    );
-    bench(
-        b"0, 3 words",
-        3,
-        3,
-        2,
-        b"\x02\x0c\x03\x14\x3b\x00\x00\x00\x00\x04\x7f\x20\x00\x79",
-    );
+    // 102 read
+    bench(3, 0x17cf, 0x0000, 0);
+    // 102 change, not writable
+    bench(3, 0x3001, 0x4000, 1);
+    // 5 before 102
+    bench(3, 0x27cf, 0x0000, 1);
+    // 5 double task on a word, 3 words
+    bench(3, 0xd43a, 0x0000, 1);
+    // 1 not writable, 3 words
+    bench(3, 0x2000, 0x4000, 1);
+    // 3 before 102
+    bench(3, 0x6000, 0x1003, 0);
+    // task 9 on a double, 3 words
+    bench(3, 0x9000, 0x1000, 0);
+    // 0, 3 words
+    bench(3, 0x143b, 0x0000, 0);
+}
+
+fn run_errors_double() {
+    // 106 task 10 on a double
+    bench(4, 0xa7cf, 0x0000, 0);
+    // 106 task 5 on a word, 3 words
+    bench(3, 0x543a, 0x0000, 0);
+    // 4 double, index 2
+    bench(4, 0x67cf, 0x0002, 0);
+    // 4 double, index 2, before 102
+    bench(3, 0x87cf, 0x0002, 0);
+    // 3 double, index 3
+    bench(4, 0x8000, 0x1003, 0);
+    // 1 double not writable, save
+    bench(4, 0xd001, 0x4000, 1);
 }
 
 fn run_process() {
-    bench(
-        b"PZD 0",
+    // 000 words 047E 3333
+    ask(
         3,
         4,
-        0,
-        b"\x02\x0a\x03\x14\x3a\x00\x00\x00\x00\x00\x00\x25",
+        2,
+        b"\x02\x0e\x03\x00\x00\x00\x00\x00\x00\x00\x00\x04\x7e\x33\x33\x75",
     );
-    bench(
-        b"PZD 1",
+    // PZD 0
+    ask(3, 4, 0, b"\x02\x0a\x03\x14\x3a\x00\x00\x00\x00\x00\x00\x25");
+    // PZD 1
+    ask(
         3,
         4,
         1,
         b"\x02\x0c\x03\x14\x3a\x00\x00\x00\x00\x00\x00\x04\x00\x27",
     );
-    bench(
-        b"PZD 3, no area",
-        3,
-        0,
-        3,
-        b"\x02\x08\x03\x04\x00\x00\x01\x00\x02\x0e",
-    );
-    bench(
-        b"PZD 4, 3 words",
+    // PZD 3, no area
+    ask(3, 0, 3, b"\x02\x08\x03\x04\x00\x00\x01\x00\x02\x0e");
+    // PZD 4, 3 words
+    ask(
         3,
         3,
         4,
         b"\x02\x10\x03\x14\x3a\x00\x00\x00\x00\xff\xff\x00\x01\x00\x02\x00\x03\x3f",
     );
-    bench(
-        b"bit 10 clear, and a change",
+    // bit 10 clear, and a change
+    ask(
         3,
         4,
         2,
         b"\x02\x0e\x03\x24\x3a\x00\x00\x00\x00\x00\x4d\xfb\xff\x20\x00\x78",
     );
-    bench(
-        b"bit 10 set, and an error",
+    // bit 10 set, and an error
+    ask(
         3,
         4,
         2,
@@ -834,59 +661,69 @@ fn run_process() {
 }
 
 fn run_mirrors() {
-    bench(b"1 net byte", 3, 4, 2, b"\x02\x03\x43\x55\x17");
+    // 1 net byte
+    ask(3, 4, 2, b"\x02\x03\x43\x55\x17");
+    // 252 net bytes
     longest_mirror();
-    bench(b"another node's mirror", 3, 4, 2, b"\x02\x03\x44\x55\x10");
+    // another node's mirror
+    ask(3, 4, 2, b"\x02\x03\x44\x55\x10");
 }
 
 fn run_frames() {
-    bench(b"10", 3, 4, 2, b"\x02\x03\x03\x00");
-    bench(b"11", 3, 4, 2, b"\x03\x03\x03\x00\x03");
-    bench(b"12 LGE 2", 3, 4, 2, b"\x02\x02\x03\x00\x03");
+    // 10
+    ask(3, 4, 2, b"\x02\x03\x03\x00");
+    // 11
+    ask(3, 4, 2, b"\x03\x03\x03\x00\x03");
+    // 12 LGE 2
+    ask(3, 4, 2, b"\x02\x02\x03\x00\x03");
+    // 12 LGE 255
     over_long();
-    bench(
-        b"13",
+    // 13
+    ask(
         3,
         4,
         2,
         b"\x02\xfe\x00\x00\x00\x00\x00\x00\x00\x00\x00\x00\x00\x00\x00\x00",
     );
-    bench(b"14", 3, 4, 2, b"\x02\x03\x03\x00\x03");
-    bench(b"15 bit 7", 3, 4, 2, b"\x02\x03\x83\x00\x82");
-    bench(b"15 bits 5 and 6", 3, 4, 2, b"\x02\x03\x63\x00\x62");
+    // 14
+    ask(3, 4, 2, b"\x02\x03\x03\x00\x03");
+    // 15 bit 7
+    ask(3, 4, 2, b"\x02\x03\x83\x00\x82");
+    // 15 bits 5 and 6
+    ask(3, 4, 2, b"\x02\x03\x63\x00\x62");
 }
 
 fn run_addresses() {
-    bench(
-        b"16",
+    // 16
+    ask(
         3,
         4,
         2,
         b"\x02\x0e\x04\x14\x3a\x00\x00\x00\x00\x00\x00\x04\x7f\x20\x00\x7d",
     );
-    bench(
-        b"17",
+    // 17
+    ask(
         3,
         4,
         2,
         b"\x02\x0c\x03\x14\x3a\x00\x00\x00\x00\x04\x7f\x20\x00\x78",
     );
-    bench(
-        b"17 odd",
+    // 17 odd
+    ask(
         3,
         4,
         2,
         b"\x02\x0f\x03\x14\x3a\x00\x00\x00\x00\x00\x00\x04\x7f\x20\x00\x00\x7b",
     );
-    bench(
-        b"17 broadcast",
+    // 17 broadcast
+    ask(
         3,
         4,
         2,
         b"\x02\x0c\x20\x00\x02\xff\xff\x00\x00\x00\x00\x04\x7f\x57",
     );
-    bench(
-        b"broadcast with node 31",
+    // broadcast with node 31
+    ask(
         3,
         4,
         2,
@@ -895,82 +732,48 @@ fn run_addresses() {
 }
 
 fn run_void() {
-    bench(
-        b"selector FFFF",
-        3,
-        4,
-        2,
-        b"\x02\x0e\x20\xff\xff\xff\xff\xff\xff\xff\xff\x04\x7f\x20\x00\x77",
-    );
-    bench(
-        b"selector 4",
-        3,
-        4,
-        2,
-        b"\x02\x0e\x20\x00\x04\xff\xff\xff\xff\x00\x00\x04\x7f\x20\x00\x73",
-    );
-    bench(
-        b"selector 3",
-        3,
-        4,
-        2,
-        b"\x02\x0e\x20\x00\x03\xff\xff\xff\xff\x00\x00\x04\x7f\x20\x00\x74",
-    );
-    bench(
-        b"mask without bit 10",
-        3,
-        4,
-        2,
-        b"\x02\x0e\x20\x00\x02\xfb\xff\x00\x00\x00\x00\x04\x7f\x20\x00\x71",
-    );
-    bench(
-        b"word without bit 10",
-        3,
-        4,
-        2,
-        b"\x02\x0e\x20\x00\x02\xff\xff\x00\x00\x00\x00\xfb\xff\x00\x00\x2a",
-    );
-    bench(
-        b"fourth word 1",
-        3,
-        4,
-        2,
-        b"\x02\x0e\x20\x00\x02\xff\xff\x00\x00\x00\x01\x04\x7f\x20\x00\x74",
-    );
-    bench(b"no area", 3, 0, 2, b"\x02\x06\x20\xff\xff\xff\xff\x24");
+    // selector FFFF
+    broadcast(4, 0xffff, 0xffff, 0xffffffff, 0x047f, 0x2000);
+    // selector 4
+    broadcast(4, 4, 0xffff, 0xffff0000, 0x047f, 0x2000);
+    // selector 3
+    broadcast(4, 3, 0xffff, 0xffff0000, 0x047f, 0x2000);
+    // mask without bit 10
+    broadcast(4, 2, 0xfbff, 0, 0x047f, 0x2000);
+    // word without bit 10
+    broadcast(4, 2, 0xffff, 0, 0xfbff, 0x0000);
+    // fourth word 1
+    broadcast(4, 2, 0xffff, 1, 0x047f, 0x2000);
+    // no area
+    ask(3, 0, 2, b"\x02\x06\x20\xff\xff\xff\xff\x24");
 }
 
 fn run_broadcasts() {
-    bench(
-        b"PZD 1 and selector 6",
+    // PZD 1 and selector 6
+    ask(
         3,
         4,
         1,
         b"\x02\x0c\x20\x00\x06\xff\xff\xff\xff\x00\x00\x04\x00\x2c",
     );
-    bench(
-        b"PZD 1 and selector 2",
+    // PZD 1 and selector 2
+    ask(
         3,
         4,
         1,
         b"\x02\x0c\x20\x00\x02\xf0\xff\xff\xff\x00\x00\x84\x00\xa7",
     );
-    bench(
-        b"PZD 1 and selector 2, mask FFFF",
+    // PZD 1 and selector 2, mask FFFF
+    ask(
         3,
         4,
         1,
         b"\x02\x0c\x20\x00\x02\xff\xff\xff\xff\x00\x00\x84\x00\xa8",
     );
-    bench(
-        b"both words, 3 words",
-        3,
-        3,
-        2,
-        b"\x02\x0c\x20\x00\x06\x0f\x00\x00\xff\x05\x00\xab\xcd\xbb",
-    );
-    bench(
-        b"PZD 4",
+    // both words, 3 words
+    broadcast(3, 6, 0x0f00, 0xff, 0x0500, 0xabcd);
+    // PZD 4
+    ask(
         3,
         4,
         4,
@@ -979,20 +782,12 @@ fn run_broadcasts() {
 }
 
 fn run_set_ups() {
-    bench(
-        b"20 node 32",
-        32,
-        4,
-        2,
-        b"\x02\x0e\x03\x14\x3a\x00\x00\x00\x00\x00\x00\x04\x7f\x20\x00\x7a",
-    );
-    bench(
-        b"20 PKW 2",
-        3,
-        2,
-        2,
-        b"\x02\x0e\x03\x14\x3a\x00\x00\x00\x00\x00\x00\x04\x7f\x20\x00\x7a",
-    );
-    bench(b"20 both 0", 3, 0, 0, b"");
-    bench(b"20 PZD 5", 3, 4, 5, b"");
+    // 20 node 32
+    ask(32, 4, 2, &K2);
+    // 20 PKW 2
+    ask(3, 2, 2, &K2);
+    // 20 both 0
+    ask(3, 0, 0, b"");
+    // 20 PZD 5
+    ask(3, 4, 5, b"");
 }

@@ -5,7 +5,6 @@ use Rattle.runs_slave.proofs.print_bytes.Statement.{statement}
 use Rattle.runs_slave.proofs.print_bytes.Tie as tie
 use Rattle.runs_slave.proofs.print_bytes.Reads as reads
 use Rattle.runs_slave.proofs.print_bytes.Lts as lts
-use Rattle.io.proofs.write_all.Reads as write-all-reads
 use Rattle.runs_slave.proofs.print_byte.Reads as print-byte-reads
 
 abbrev Inv-loop : tie.InvT-loop
@@ -14,39 +13,31 @@ Inv-loop bytes n i₀ i-end i = i ≤ i-end
 abbrev μ-loop : tie.MeasureT-loop
 μ-loop bytes n i₀ i-end i = i-end - i
 
--- src/main.rt:106:26
-slice-aggregate-write-all : tie.Need-slice-aggregate-write-all Inv-loop μ-loop
-slice-aggregate-write-all c = search needs
-
--- src/main.rt:106:9
-write-all-requires : tie.Need-write-all-requires Inv-loop μ-loop
-write-all-requires c κs = search needs
-
--- src/main.rt:108:5
+-- src/main.rt:106:5
 loop-holds : tie.Need-loop-holds Inv-loop μ-loop
 loop-holds c = search needs
 
--- src/main.rt:110:24
+-- src/main.rt:108:24
 shared-slice-read-print-byte : tie.Need-shared-slice-read-print-byte Inv-loop μ-loop
 shared-slice-read-print-byte c = search needs
 
--- src/main.rt:110:13
+-- src/main.rt:108:13
 print-byte-requires : tie.Need-print-byte-requires Inv-loop μ-loop
 print-byte-requires c κs = search needs
 
--- src/main.rt:108:9
+-- src/main.rt:106:9
 add-i : tie.Need-add-i Inv-loop μ-loop
 add-i c = search needs
 
--- src/main.rt:108:5
+-- src/main.rt:106:5
 loop-less : tie.Need-loop-less Inv-loop μ-loop
 loop-less c = search needs
 
--- src/main.rt:108:5
+-- src/main.rt:106:5
 loop-again : tie.Need-loop-again Inv-loop μ-loop
 loop-again c = search needs
 
--- src/main.rt:104:1
+-- src/main.rt:105:1
 returns : tie.Need-returns Inv-loop μ-loop
 returns c = search needs
 
@@ -56,8 +47,6 @@ print-bytes-spec =
     (tie.spec
     Inv-loop
     μ-loop
-    slice-aggregate-write-all
-    write-all-requires
     loop-holds
     shared-slice-read-print-byte
     print-byte-requires
