@@ -4,3 +4,6 @@ pub mod BuiltPasses
 pub mod TaskIsRead
 pub mod MirrorIsRead
 pub mod BroadcastIsRead
+pub mod ReplyLaws
+pub mod AnswerLaws
+pub mod ReplyIsRead

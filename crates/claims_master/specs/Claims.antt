@@ -3,6 +3,7 @@
 --     TaskRead ..        the slave reads a task telegram as the task that was asked
 --     MirrorRead ..      the slave answers a mirror telegram with the telegram
 --     BroadcastRead ..   each slave with these areas takes a broadcast as it was asked
+--     ReplyRead ..       the master reads the slave's reply as what the slave answered
 use mathlib.Core.Path.{_≡_}
 use mathlib.Core.Bool.{Bool, true, false, not, _&&_, cond}
 use mathlib.Core.List.{List, [], _∷_}
@@ -27,6 +28,8 @@ use Rattle.request.specs.Request.{commandOf}
 use Rattle.slave.specs.Slave.{outcome, written, firstWord, commandAt, taskDone, controlTaken, replyOf, executeOf}
 use Rattle.slave.specs.Perform.{emptyArea, performOf}
 use Rattle.slave.specs.declared.Answer.the-variants.{Replied, Mirrored, Taken}
+use Rattle.reply.specs.declared.Reading.{Reading}
+use Rattle.reply.specs.Reply.{readNumber, readId, readValue, zeroWords}
 use Rattle.master.specs.Build.{BuildOutcome, taskArea, telegramFor}
 
 -- of the outcome o of a build into the buffer out
@@ -79,3 +82,12 @@ pub record BroadcastRead (s : Setup) (selector mask1 mask2 : ℕ) (process : Wor
   pub served : (node : ℕ) (t vs : List ℕ) (control status : Words) (out : List ℕ)
       → executeOf (record { node = node; pkw = s .pkw; pzd = s .pzd }) t vs control status rx out
       ≡ outcome Taken 0 (controlAfter (commandOf selector mask1 mask2) control (firstWords (s .pzd) process control)) vs out
+
+-- of the reading r of the slave's reply, whose parameter area is `area`: reply ID, value or error number, and status words
+pub record ReplyRead (s : Setup) (area : Area) (status : Words) (r : Reading) : Type 0 where
+  pub number-is : readNumber (r .answer) ≡ 0
+  pub id-is : readId (r .answer) ≡ area .pke / 4096
+  pub value-is : readValue (r .answer) ≡ area .value
+  pub process-is : r .process ≡ firstWords (s .pzd) status zeroWords
+  -- the slave never answers that the master has no right
+  pub not-8 : readId (r .answer) ≡ 8 → ⊥
