@@ -1,3 +1,4 @@
--- Laws of telegrams as they are written.
+-- Laws of telegrams as they are written, and read back.
 pub mod SealLaws
 pub mod NetLaws
+pub mod ReadLaws

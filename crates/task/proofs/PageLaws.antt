@@ -7,7 +7,9 @@ use lib.Dec.{lit≤}
 use lib.ListN.{length, getD, List·getD-eq-default}
 use mathlib.Core.List.{List}
 use Rattle.rows.proofs.RangeLaws.{EachOf, between}
-use Rattle.task.specs.Page.{pages, pageOf, nibbles, nibbleOf}
+use borrow.Author.Tests.{lt-ltb}
+use mathlib.Core.Bool.{true}
+use Rattle.task.specs.Page.{pages, pageOf, nibbles, nibbleOf, baseOf, fullNumber, named}
 
 -- what is at most 15 at each of the sixteen places of a list is so everywhere
 small : (xs : List ℕ) → length xs ≤ 16 → EachOf (λ k. getD xs k 0 ≤ 15) 0 16 → (n : ℕ) → getD xs n 0 ≤ 15
@@ -26,3 +28,40 @@ page-small ind = small pages (lit≤ tt) (lit≤ tt, (lit≤ tt, (lit≤ tt, (li
 pub nibble-small : (number : ℕ) → nibbleOf number ≤ 15
 unfolding nibbleOf
 nibble-small number = small nibbles (lit≤ tt) (lit≤ tt, (lit≤ tt, (lit≤ tt, (lit≤ tt, (lit≤ tt, (lit≤ tt, (lit≤ tt, (lit≤ tt, (lit≤ tt, (lit≤ tt, (lit≤ tt, (lit≤ tt, (lit≤ tt, (lit≤ tt, (lit≤ tt, (lit≤ tt, tt)))))))))))))))) (number / 2000)
+
+-- ---- a number as it is written in PKE and IND, read back
+
+-- the page of a nibble
+page-nibble : (k : ℕ) → k < 16 → (getD pages (getD nibbles k 0) 0 ≡ k)
+page-nibble k h =
+    between (λ j. getD pages (getD nibbles j 0) 0 ≡ j) 16 0
+    (refl, (refl, (refl, (refl, (refl, (refl, (refl, (refl, (refl, (refl, (refl, (refl, (refl, (refl, (refl, (refl, tt)))))))))))))))) k (omega arith) h
+
+module _ (number index : ℕ) (numbers : number ≤ 31999) (indices : index < 256) where
+  pub ind-nibble : (nibbleOf number * 4096 + index) / 4096 ≡ nibbleOf number
+  ind-nibble = omega arith
+
+  pub ind-index : (nibbleOf number * 4096 + index) % 256 ≡ index
+  ind-index = omega arith
+
+  pub page-back : pageOf (nibbleOf number * 4096 + index) ≡ number / 2000
+  unfolding pageOf nibbleOf
+  page-back = ap (λ (k : ℕ). getD pages k 0) ind-nibble ∙ page-nibble (number / 2000) (omega arith)
+
+  -- the full number, whatever the task ID
+  pub number-back : (id : ℕ) → fullNumber (id * 4096 + number % 2000) (nibbleOf number * 4096 + index) ≡ number
+  number-back id = rw page-back (omega arith)
+
+module _ (id number : ℕ) where
+  pub base-back : baseOf (id * 4096 + number % 2000) ≡ number % 2000
+  base-back = omega arith
+
+  pub named-back : named (id * 4096 + number % 2000) ≡ true
+  named-back = lt-ltb (baseOf (id * 4096 + number % 2000)) 2000 (omega arith)
+
+  pub id-back : (id * 4096 + number % 2000) / 4096 ≡ id
+  id-back = omega arith
+
+  -- bit 11
+  pub bit-zero : (id * 4096 + number % 2000) / 2048 % 2 ≡ 0
+  bit-zero = omega arith

@@ -1,0 +1,93 @@
+-- Every telegram that is built passes the frame check, its reported length is its byte count, and the buffer behind it is as it
+-- was. Assumes nothing.
+use mathlib.Core.Path.{_≡_, refl, sym, ap, _∙_}
+use mathlib.Core.Bool.{Bool, true, false, not}
+use mathlib.Core.List.{List, _++_}
+use Prim.Native.Nat.{ℕ, _+_, _-_, _≤_, _<_}
+use native.Mathlib.Omega.{arith}
+use borrow.Author.Tests.{ltb-false, not-false}
+use lib.Dec.{ltb}
+use lib.ListN.{length, take, drop, length-append, length-drop}
+use lib.Seq.{take-at, drop-at}
+use Rattle.rows.proofs.RowsLaws.{row-passed}
+use Rattle.frame.specs.Frame.{frameOf}
+use Rattle.frame.specs.declared.FrameCheck.the-variants.{Sound}
+use Rattle.setup.specs.declared.Setup.{Setup}
+use Rattle.setup.specs.SetupRules.{setupOk}
+use Rattle.setup.proofs.SetupLaws.{Configured, configured}
+use Rattle.net.specs.Net.{netOf}
+use Rattle.net.specs.Telegram.{telegramOf}
+use Rattle.net.proofs.SealLaws.{length-telegram, passes}
+use Rattle.request.specs.declared.Request.{Request}
+use Rattle.request.specs.declared.Request.the-variants.{Task, Mirror, Broadcast}
+use Rattle.request.specs.Request.{expressible}
+use Rattle.request.proofs.RequestLaws.{mirror-asked}
+use Rattle.master.specs.declared.BuildFault.the-variants.{BadSetup, NotExpressible, ShortBuffer}
+use Rattle.master.specs.declared.BuildAnswer.{BuildAnswer}
+use Rattle.master.specs.declared.BuildAnswer.the-variants.{Done, Refused}
+use Rattle.master.specs.Build.{BuildOutcome, taskArea, commandArea, telegramFor, unbuilt, sent, builtOf}
+use Rattle.claims_master.specs.Claims.{Passes}
+use Rattle.claims_master.proofs.SentLaws.{net-some, net-fits}
+
+isDone : BuildAnswer → Bool
+isDone Done = true
+isDone (Refused fault) = false
+
+done : BuildOutcome → Bool
+done o = isDone (o .built .answer)
+
+-- a build that succeeded: the set-up may be used, the request can be asked, the buffer is long enough
+pub record Buildable (s : Setup) (r : Request) (net out : List ℕ) : Type 0 where
+  pub setup-good : setupOk s ≡ true
+  pub asked : expressible s r net ≡ true
+  pub room : 256 ≤ length out
+  pub is : builtOf s r net out ≡ sent (telegramFor s r net) out
+
+pub buildable : (s : Setup) (r : Request) (net out : List ℕ) → builtOf s r net out .built .answer ≡ Done → Buildable s r net out
+unfolding builtOf done isDone
+buildable s r net out e =
+    let p1 = row-passed done (not (setupOk s)) (unbuilt BadSetup out) _ refl (ap isDone e) in
+    let p2 = row-passed done (not (expressible s r net)) (unbuilt NotExpressible out) _ refl (p1 .1) in
+    let p3 = row-passed done (ltb (length out) 256) (unbuilt ShortBuffer out) _ refl (p2 .1) in
+    record { setup-good = not-false _ (p1 .0); asked = not-false _ (p2 .0); room = ltb-false _ _ (p3 .0); is = rw (p1 .0, p2 .0, p3 .0) }
+
+-- a telegram has a sound frame and at most 256 bytes
+pub record Sendable (t : List ℕ) : Type 0 where
+  pub frame : frameOf t ≡ Sound (length t - 1)
+  pub few : length t ≤ 256
+
+sendable : (adr : ℕ) (net : List ℕ) → 1 ≤ length net → length net ≤ 252 → Sendable (telegramOf adr net)
+sendable adr net some fits =
+    let long = length-telegram adr net in
+    let last : length net + 3 ≡ length (telegramOf adr net) - 1 = omega arith in
+    record { frame = passes adr net some fits ∙ ap Sound last; few = omega arith }
+
+pub request-sendable : (s : Setup) (r : Request) (net : List ℕ) → setupOk s ≡ true → expressible s r net ≡ true → Sendable (telegramFor s r net)
+unfolding telegramFor
+request-sendable s (Task id number index value process) net ok asked =
+    let c = configured s ok in
+    let a = taskArea id number index value in
+    sendable (s .node) (netOf a (s .pkw) process (s .pzd)) (net-some s c a process) (net-fits s c a process)
+request-sendable s Mirror net ok asked = sendable (s .node + 64) net (mirror-asked s net asked .0) (mirror-asked s net asked .1)
+request-sendable s (Broadcast selector mask1 mask2 process) net ok asked =
+    let c = configured s ok in
+    let a = commandArea (s .pkw) selector mask1 mask2 in
+    sendable 32 (netOf a (s .pkw) process (s .pzd)) (net-some s c a process) (net-fits s c a process)
+
+-- what a telegram at the front of a buffer leaves
+sent-passes : (s : Setup) (r : Request) (net out : List ℕ) → Sendable (telegramFor s r net) → 256 ≤ length out → Passes s r net out (sent (telegramFor s r net) out)
+sent-passes s r net out f room =
+    let t = telegramFor s r net in
+    record {
+      there = take-at t (drop (length t) out) (length t) refl;
+      long = refl;
+      fits = f .few;
+      passes = f .frame;
+      behind = drop-at t (drop (length t) out) (length t) refl;
+      whole = omega (arith, length-append t (drop (length t) out), length-drop (length t) out, f .few);
+    }
+
+pub built-passes : (s : Setup) (r : Request) (net out : List ℕ) → builtOf s r net out .built .answer ≡ Done → Passes s r net out (builtOf s r net out)
+built-passes s r net out e =
+    let b = buildable s r net out e in
+    rw (b .is) (sent-passes s r net out (request-sendable s r net (b .setup-good) (b .asked)) (b .room))

@@ -1,0 +1,9 @@
+-- What master and slave make of each other's telegrams.
+pub mod SentLaws
+pub mod BuiltPasses
+pub mod TaskIsRead
+pub mod MirrorIsRead
+pub mod BroadcastIsRead
+pub mod ReplyLaws
+pub mod AnswerLaws
+pub mod ReplyIsRead

@@ -1,0 +1,110 @@
+-- What a parameter area must be to be read as the reply to a task. Assumes nothing.
+use mathlib.Core.Path.{_≡_, refl, sym, ap, _∙_}
+use mathlib.Core.Logic.{_⊎_, inl, inr}
+use mathlib.Core.Bool.{Bool, true, false, not, _||_, cond}
+use Prim.Native.Nat.{ℕ, _+_, _-_, _*_, _/_, _%_, _^_, _≤_, _<_}
+use native.Mathlib.Omega.{arith}
+use borrow.Author.Tests.{eq-eqb, ne-eqb, eqb-true, ltb-false, le-ltb}
+use lib.Dec.{eqb, ltb, lit<}
+use Rattle.net.specs.declared.Area.{Area}
+use Rattle.net.proofs.ReadLaws.{Headed}
+use Rattle.task.specs.declared.Act.{Act}
+use Rattle.task.specs.Task.{taskOf}
+use Rattle.task.specs.Page.{nibbleOf, baseOf}
+use Rattle.task.proofs.PageLaws.{nibble-small, ind-nibble, ind-index, base-back, id-back, bit-zero}
+use Rattle.slave.specs.Perform.{emptyArea, replyArea}
+use Rattle.master.specs.Build.{taskArea}
+use Rattle.reply.specs.declared.Content.the-variants.{Value, Failed}
+use Rattle.reply.specs.Reply.{inRow, knownId, isDoubleId, misfit, otherEcho, notEmpty, badReply, contentOf, contentId, contentValue}
+
+-- an area that is read as the reply to a task, with its own reply ID and value
+pub record Replies (n id number index : ℕ) (p : Area) : Type 0 where
+  pub heads : Headed p
+  pub fits : p .value < 65536 ^ (n - 2)
+  pub good : badReply n id number index p ≡ false
+  pub same-id : contentId (contentOf id p) ≡ p .pke / 4096
+  pub same-value : contentValue (contentOf id p) ≡ p .value
+  pub not-8 : p .pke / 4096 ≡ 8 → ⊥
+
+-- a reply ID and a value that may follow a task whose act has this reply ID
+pub record Suits (n : ℕ) (act : Act) (reply replyId v : ℕ) : Type 0 where
+  pub known : (inRow act reply replyId || (eqb replyId 7 || eqb replyId 8)) ≡ true
+  pub fit : misfit n replyId v ≡ false
+  pub small : v < 65536 ^ (n - 2)
+  pub few : replyId ≤ 7
+
+-- task 0
+pub empty-replies : (n id number index : ℕ) → (n ≡ 3) ⊎ (n ≡ 4) → id ≡ 0 → Replies n id number index emptyArea
+unfolding badReply notEmpty contentOf
+empty-replies n id number index w e = record {
+  heads = record { pke-word = lit< tt; ind-word = lit< tt };
+  fits = zero-fits w;
+  good = rw (eq-eqb id 0 e);
+  same-id = rw (eq-eqb id 0 e);
+  same-value = rw (eq-eqb id 0 e);
+  not-8 = λ q. omega arith;
+}
+  where
+    zero-fits : (n ≡ 3) ⊎ (n ≡ 4) → 0 < 65536 ^ (n - 2)
+    zero-fits (inl q) = rw q (lit< tt)
+    zero-fits (inr q) = rw q (lit< tt)
+
+-- base, page and index come back, and the bits between them are 0
+echoed : (number index replyId v : ℕ) → number ≤ 31999 → index < 256 → otherEcho number index (taskArea replyId number index v) ≡ false
+unfolding otherEcho taskArea
+echoed number index replyId v h i =
+    let ind = nibbleOf number * 4096 + index in
+    let between : ind / 256 % 16 ≡ 0 = omega arith in
+    rw (
+      eq-eqb (baseOf (replyId * 4096 + number % 2000)) (number % 2000) (base-back replyId number),
+      eq-eqb (ind / 4096) (nibbleOf number) (ind-nibble number index h i),
+      eq-eqb (ind % 256) index (ind-index number index h i),
+      eq-eqb ((replyId * 4096 + number % 2000) / 2048 % 2) 0 (bit-zero replyId number),
+      eq-eqb (ind / 256 % 16) 0 between,
+    )
+
+-- an error number is a word
+error-word : (n v : ℕ) → misfit n 7 v ≡ false → v % 65536 ≡ v
+unfolding misfit
+error-word n v e = omega (arith, ltb-false 65535 v e)
+
+-- a value or an error number, by the reply ID
+id-or-error : (b : Bool) (replyId v : ℕ) → eqb replyId 7 ≡ b → (replyId ≡ 7 → v % 65536 ≡ v)
+    → (contentId (cond b (Failed (v % 65536)) (Value replyId v)) ≡ replyId) × (contentValue (cond b (Failed (v % 65536)) (Value replyId v)) ≡ v)
+id-or-error true replyId v e word = let q = eqb-true replyId 7 e in (sym q, word q)
+id-or-error false replyId v e word = (refl, refl)
+
+content-same : (id : ℕ) (p : Area) (replyId : ℕ) → (id ≡ 0 → ⊥) → p .pke / 4096 ≡ replyId → replyId ≤ 7 → (replyId ≡ 7 → p .value % 65536 ≡ p .value)
+    → (contentId (contentOf id p) ≡ replyId) × (contentValue (contentOf id p) ≡ p .value)
+unfolding contentOf
+content-same id p replyId some e few word =
+    let no-8 : replyId ≡ 8 → ⊥ = λ q. omega arith in
+    rw (ne-eqb id 0 some, e, ne-eqb replyId 8 no-8) (id-or-error (eqb replyId 7) replyId (p .value) refl word)
+
+-- a reply to any other task
+pub suited-replies : (n id number index replyId v : ℕ) → (id ≡ 0 → ⊥) → number ≤ 31999 → index < 256 → Suits n (taskOf id .act) (taskOf id .reply) replyId v
+    → Replies n id number index (taskArea replyId number index v)
+unfolding badReply knownId taskArea
+suited-replies n id number index replyId v some h i f =
+    let p = taskArea replyId number index v in
+    let back = id-back replyId number in
+    let no-8 : replyId ≡ 8 → ⊥ = λ q. omega (arith, f .few) in
+    let word : replyId ≡ 7 → v % 65536 ≡ v = λ q. error-word n v (ap (λ (k : ℕ). misfit n k v) (sym q) ∙ f .fit) in
+    let c = content-same id p replyId some back (f .few) word in
+    record {
+      heads = record { pke-word = omega (arith, f .few); ind-word = omega (arith, nibble-small number) };
+      fits = f .small;
+      good = rw (ne-eqb id 0 some, back, f .known, f .fit, echoed number index replyId v h i, ne-eqb replyId 8 no-8);
+      same-id = c .0 ∙ sym back;
+      same-value = c .1;
+      not-8 = λ q. no-8 (sym back ∙ q);
+    }
+
+-- a reply repeats base, page and index
+pub reply-echoes : (id number index value replyId v : ℕ) → number ≤ 31999 → index < 256
+    → replyArea (taskArea id number index value) replyId v ≡ taskArea replyId number index v
+unfolding taskArea
+reply-echoes id number index value replyId v h i =
+    let ind = nibbleOf number * 4096 + index in
+    let page : ind / 4096 * 4096 + ind % 256 ≡ ind = omega arith in
+    rw (base-back id number, page)

@@ -1,0 +1,65 @@
+-- What a telegram of given net bytes is decoded as, by its address byte. Assumes nothing.
+use mathlib.Core.Path.{_≡_, refl, sym, ap, _∙_}
+use mathlib.Core.Bool.{Bool, true, false}
+use mathlib.Core.List.{List}
+use Prim.Native.Nat.{ℕ, _+_, _/_, _%_, _≤_, _<_}
+use native.Mathlib.Omega.{arith}
+use borrow.Author.Tests.{lt-leb, eq-eqb, ne-eqb}
+use lib.ListN.{length}
+use Rattle.words.specs.declared.Words.{Words}
+use Rattle.frame.specs.Address.{addressOf, kindOf, decodedFrom, decodedOf}
+use Rattle.frame.specs.declared.FrameCheck.{FrameCheck}
+use Rattle.frame.specs.declared.Address.the-variants.{ToOne, ToMirror, ToAll}
+use Rattle.frame.specs.declared.Decoded.the-variants.{Normal, Mirror, Broadcast}
+use Rattle.setup.specs.declared.Setup.{Setup}
+use Rattle.setup.specs.SetupRules.{netBytes}
+use Rattle.setup.proofs.SetupLaws.{Configured, area-few}
+use Rattle.net.specs.declared.Area.{Area}
+use Rattle.net.specs.Net.{netOf}
+use Rattle.net.specs.Telegram.{telegramOf}
+use Rattle.net.proofs.NetLaws.{length-net}
+use Rattle.net.proofs.SealLaws.{passes}
+
+-- ---- address bytes
+
+pub to-one : (node : ℕ) → node ≤ 31 → addressOf node ≡ ToOne node
+unfolding addressOf
+to-one node h =
+    let five : node / 32 % 2 ≡ 1 → ⊥ = λ e. omega arith in
+    let six : node / 64 % 2 ≡ 1 → ⊥ = λ e. omega arith in
+    let low : node % 32 ≡ node = omega arith in
+    rw (lt-leb 128 node (omega arith), ne-eqb (node / 32 % 2) 1 five, ne-eqb (node / 64 % 2) 1 six, low)
+
+pub to-mirror : (node : ℕ) → node ≤ 31 → addressOf (node + 64) ≡ ToMirror node
+unfolding addressOf
+to-mirror node h =
+    let five : (node + 64) / 32 % 2 ≡ 1 → ⊥ = λ e. omega arith in
+    let six : (node + 64) / 64 % 2 ≡ 1 = omega arith in
+    let low : (node + 64) % 32 ≡ node = omega arith in
+    rw (lt-leb 128 (node + 64) (omega arith), ne-eqb ((node + 64) / 32 % 2) 1 five, eq-eqb ((node + 64) / 64 % 2) 1 six, low)
+
+pub to-all : addressOf 32 ≡ ToAll
+unfolding addressOf
+to-all = refl
+
+-- ---- telegrams
+
+-- a telegram that can be sent is decoded by its address byte
+pub sent-decoded : (adr : ℕ) (net : List ℕ) → 1 ≤ length net → length net ≤ 252 → decodedOf (telegramOf adr net) ≡ kindOf (addressOf adr) (length net + 3)
+sent-decoded adr net some fits = ap (λ (r : FrameCheck). decodedFrom r adr) (passes adr net some fits)
+
+-- the net bytes of a set-up that may be used
+module _ (s : Setup) (c : Configured s) (a : Area) (w : Words) where
+  pub net-count : length (netOf a (s .pkw) w (s .pzd)) ≡ netBytes s
+  net-count = length-net a (s .pkw) w (s .pzd) (c .process) ∙ omega arith
+
+  pub net-some : 1 ≤ length (netOf a (s .pkw) w (s .pzd))
+  net-some = omega (arith, net-count, c .some)
+
+  pub net-fits : length (netOf a (s .pkw) w (s .pzd)) ≤ 252
+  net-fits = omega (arith, net-count, area-few s c, c .process)
+
+  -- a normal telegram of the set-up's node
+  pub normal-decoded : decodedOf (telegramOf (s .node) (netOf a (s .pkw) w (s .pzd))) ≡ Normal (s .node) 3 (netBytes s + 3)
+  normal-decoded =
+      sent-decoded (s .node) (netOf a (s .pkw) w (s .pzd)) net-some net-fits ∙ rw (to-one (s .node) (c .nodes), net-count)

@@ -1,0 +1,182 @@
+-- A slave of the same set-up reads a task telegram as the task that was asked. Assumes nothing.
+use mathlib.Core.Path.{_≡_, refl, sym, ap, _∙_}
+use mathlib.Core.Logic.{_⊎_, inl, inr}
+use mathlib.Core.Bool.{Bool, true, false, not, _&&_, cond, false≢true}
+use mathlib.Core.List.{List}
+use Prim.Native.Nat.{ℕ, _+_, _-_, _*_, _/_, _%_, _^_, _≤_, _<_}
+use native.Mathlib.Omega.{arith}
+use borrow.Author.Tests.{eqb-true, eqb-false, leb-true}
+use lib.Dec.{eqb}
+use lib.ListN.{length}
+use Rattle.rows.proofs.BoolLaws.{and-left}
+use Rattle.words.specs.declared.Words.{Words}
+use Rattle.setup.specs.declared.Setup.{Setup}
+use Rattle.setup.specs.SetupRules.{setupOk, netBytes}
+use Rattle.setup.proofs.SetupLaws.{Configured, configured, area-few}
+use Rattle.frame.specs.Address.{decodedOf}
+use Rattle.frame.specs.declared.Decoded.the-variants.{Normal}
+use Rattle.net.specs.declared.Area.{Area}
+use Rattle.net.specs.Net.{netOf}
+use Rattle.net.specs.Read.{areaAt, processAt}
+use Rattle.net.specs.Telegram.{telegramOf}
+use Rattle.net.proofs.ReadLaws.{Headed, Worded, firstWords, process-word, area-back, process-back}
+use Rattle.task.specs.declared.Act.{Act}
+use Rattle.task.specs.declared.Act.the-variants.{Nothing, Read, Change, Count, Refuse}
+use Rattle.task.specs.declared.Width.{Width}
+use Rattle.task.specs.declared.Width.the-variants.{Either, Word, Double}
+use Rattle.task.specs.Task.{taskOf}
+use Rattle.task.specs.Page.{nibbleOf}
+use Rattle.task.proofs.PageLaws.{nibble-small, ind-index, number-back, named-back, id-back}
+use Rattle.request.specs.declared.Request.the-variants.{Task}
+use Rattle.request.specs.Request.{unusedZero, valueFits, taskFits, expressible}
+use Rattle.request.proofs.RequestLaws.{Idle, Asked, task-asked, asked-id}
+use Rattle.slave.specs.Slave.{firstWord, taskDone, controlTaken, executeOf, normalOutcome}
+use Rattle.slave.specs.Perform.{Performed, emptyArea, performOf}
+use Rattle.slave.proofs.CaseLaws.{executed, normal-replied}
+use Rattle.master.specs.Build.{taskArea, telegramFor}
+use Rattle.claims_master.specs.Claims.{TaskRead}
+use Rattle.claims_master.proofs.SentLaws.{normal-decoded}
+
+-- ---- what a task that can be asked carries
+
+-- in three words a value of one word
+word-carried : (act : Act) (width : Width) (v : ℕ) → valueFits act width 3 v ≡ true → v < 65536
+unfolding valueFits
+word-carried Nothing width v e = absurd (false≢true e)
+word-carried Read width v e = omega (arith, eqb-true v 0 e)
+word-carried Change Either v e = absurd (false≢true e)
+word-carried Change Word v e = omega (arith, leb-true v 65535 e)
+word-carried Change Double v e = absurd (false≢true e)
+word-carried Count width v e = omega (arith, eqb-true v 0 e)
+word-carried Refuse width v e = absurd (false≢true e)
+
+-- an area is of three or four words
+pub area-words : (s : Setup) → Configured s → (s .pkw ≡ 0 → ⊥) → (s .pkw ≡ 3) ⊎ (s .pkw ≡ 4)
+area-words s c h = go (c .areas)
+  where
+    go : (s .pkw ≡ 0) ⊎ ((s .pkw ≡ 3) ⊎ (s .pkw ≡ 4)) → (s .pkw ≡ 3) ⊎ (s .pkw ≡ 4)
+    go (inl e) = absurd (h e)
+    go (inr e) = e
+
+-- the value fits the words that are left for it
+pub value-fits : (n v : ℕ) → (n ≡ 3) ⊎ (n ≡ 4) → (n ≡ 3 → v < 65536) → v < 4294967296 → v < 65536 ^ (n - 2)
+value-fits n v (inl e) h g =
+    let f : v < 65536 = h e in
+    rw e f
+value-fits n v (inr e) h g = rw e g
+
+pub record Carried (s : Setup) (id number index value : ℕ) : Type 0 where
+  pub id-few : id < 15
+  pub numbers : number ≤ 31999
+  pub indices : index < 256
+  pub heads : Headed (taskArea id number index value)
+  pub fits : (s .pkw ≡ 0 → ⊥) → value < 65536 ^ (s .pkw - 2)
+
+pub carried-of : (s : Setup) (id number index value : ℕ) → Configured s → taskFits (s .pkw) id number index value ≡ true → value < 4294967296 → Carried s id number index value
+unfolding taskArea
+carried-of s id number index value c h v = go (task-asked (s .pkw) id number index value h)
+  where
+    few : id < 15
+    few = asked-id (s .pkw) id number index value h
+
+    heads-of : index < 256 → Headed (taskArea id number index value)
+    heads-of i = record { pke-word = omega (arith, few); ind-word = omega (arith, nibble-small number) }
+
+    go : ((id ≡ 0) × Idle number index value) ⊎ Asked (s .pkw) id number index value → Carried s id number index value
+    go (inl e) =
+        let i : index < 256 = omega (arith, e .1 .index-none) in
+        record {
+          id-few = few;
+          numbers = omega (arith, e .1 .number-none);
+          indices = i;
+          heads = heads-of i;
+          fits = λ p. value-fits (s .pkw) value (area-words s c p) (λ q. omega (arith, e .1 .value-none)) v;
+        }
+    go (inr a) =
+        let i : index < 256 = omega (arith, a .indices) in
+        record {
+          id-few = few;
+          numbers = a .numbers;
+          indices = i;
+          heads = heads-of i;
+          fits = λ p. value-fits (s .pkw) value (area-words s c p) (λ q. word-carried (taskOf id .act) (taskOf id .width) value (rw q at (a .values))) v;
+        }
+
+-- ---- what is read
+
+-- an area of three or four words comes back
+pub normal-area : (s : Setup) (c : Configured s) (a : Area) (w : Words) → Headed a → Worded w → (s .pkw ≡ 0 → ⊥) → a .value < 65536 ^ (s .pkw - 2)
+    → areaAt (telegramOf (s .node) (netOf a (s .pkw) w (s .pzd))) (s .pkw) ≡ a
+normal-area s c a w h g p fits = area-back (s .node) a (s .pkw) w (s .pzd) h g (two (area-words s c p)) (area-few s c) fits
+  where
+    two : (s .pkw ≡ 3) ⊎ (s .pkw ≡ 4) → 2 ≤ s .pkw
+    two (inl e) = omega arith
+    two (inr e) = omega arith
+
+control-of : (z : Bool) (x y : ℕ) (p q control : Words) → (z ≡ false → x ≡ y) → p ≡ q
+    → cond (not z && eqb (x / 1024 % 2) 1) p control ≡ cond (not z && eqb (y / 1024 % 2) 1) q control
+control-of true x y p q control h e = refl
+control-of false x y p q control h e = rw (h refl, e)
+
+-- a slave replies to a telegram that is decoded as normal with its node and its length
+pub normal-served : (s : Setup) (rx t vs : List ℕ) (control status : Words) (out : List ℕ) (d : decodedOf rx ≡ Normal (s .node) 3 (netBytes s + 3))
+    → executeOf s t vs control status rx out ≡ normalOutcome s t vs control status rx out
+normal-served s rx t vs control status out d =
+    executed s t vs control status rx out (Normal (s .node) 3 (netBytes s + 3)) d
+    ∙ normal-replied (s .node) (netBytes s + 3 - 3) s t vs control status rx out refl (omega arith)
+
+-- the task of an area that is read
+task-of : (n : ℕ) (t vs rx : List ℕ) (a : Area) → ((n ≡ 0 → ⊥) → areaAt rx n ≡ a)
+    → taskDone n t vs rx ≡ cond (eqb n 0) (record { area = emptyArea; values = vs }) (performOf n t vs a)
+unfolding taskDone
+task-of n t vs rx a h = go (eqb n 0) refl
+  where
+    go : (b : Bool) → eqb n 0 ≡ b
+        → cond b (record { area = emptyArea; values = vs }) (performOf n t vs (areaAt rx n)) ≡ cond b (record { area = emptyArea; values = vs }) (performOf n t vs a)
+    go true e = refl
+    go false e = ap (λ (x : Area). performOf n t vs x) (h (eqb-false n 0 e))
+
+-- the control words of a telegram whose first word and process words are known
+control-taken : (s : Setup) (rx : List ℕ) (process control : Words) → (0 < s .pzd → firstWord s rx ≡ process .w1)
+    → processAt rx (s .pkw) (s .pzd) control ≡ firstWords (s .pzd) process control
+    → controlTaken s control rx ≡ cond (not (eqb (s .pzd) 0) && eqb (process .w1 / 1024 % 2) 1) (firstWords (s .pzd) process control) control
+unfolding controlTaken
+control-taken s rx process control h w =
+    control-of (eqb (s .pzd) 0) (firstWord s rx) (process .w1) (processAt rx (s .pkw) (s .pzd) control) (firstWords (s .pzd) process control) control
+    (λ e. let n = eqb-false (s .pzd) 0 e in h (omega arith)) w
+
+task-read : (s : Setup) (id number index value : ℕ) (process : Words) → Configured s → Carried s id number index value → Worded process
+    → TaskRead s id number index value process (telegramOf (s .node) (netOf (taskArea id number index value) (s .pkw) process (s .pzd)))
+unfolding taskArea
+task-read s id number index value process c f g =
+    let a = taskArea id number index value in
+    let rx = telegramOf (s .node) (netOf a (s .pkw) process (s .pzd)) in
+    let d = normal-decoded s c a process in
+    let back : (s .pkw ≡ 0 → ⊥) → areaAt rx (s .pkw) ≡ a = λ p. normal-area s c a process (f .heads) g p (f .fits p) in
+    let words : (old : Words) → processAt rx (s .pkw) (s .pzd) old ≡ firstWords (s .pzd) process old =
+    λ old. process-back (s .node) a (s .pkw) process (s .pzd) old (f .heads) g (c .process) in
+    let one : 0 < s .pzd → firstWord s rx ≡ process .w1 =
+    λ p. process-word (s .node) a (s .pkw) process (s .pzd) 0 (s .pkw * 2 + 3) (omega arith) (f .heads) g p (c .process) in
+    record {
+      decoded = d;
+      area = back;
+      task-id = id-back id number;
+      number-is = number-back number index (f .numbers) (f .indices) id;
+      names = named-back id number;
+      index-is = ind-index number index (f .numbers) (f .indices);
+      value-is = refl;
+      process-is = words;
+      first = one;
+      served = λ t vs control status out. normal-served s rx t vs control status out d;
+      performed = λ t vs. task-of (s .pkw) t vs rx a back;
+      controlled = λ control. control-taken s rx process control one (words control);
+    }
+
+pub task-is-read : (s : Setup) (id number index value : ℕ) (process : Words) (net : List ℕ) → setupOk s ≡ true
+    → expressible s (Task id number index value process) net ≡ true → value < 4294967296 → Worded process
+    → TaskRead s id number index value process (telegramFor s (Task id number index value process) net)
+unfolding telegramFor expressible
+task-is-read s id number index value process net ok asked v g =
+    let c = configured s ok in
+    let fits = and-left (taskFits (s .pkw) id number index value) (unusedZero (s .pzd) process) asked in
+    task-read s id number index value process c (carried-of s id number index value c fits v) g

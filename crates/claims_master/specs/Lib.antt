@@ -1,0 +1,2 @@
+-- What is claimed of telegrams that a master builds and of replies that it reads.
+pub mod Claims
