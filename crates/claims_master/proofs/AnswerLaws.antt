@@ -1,18 +1,17 @@
 -- What a slave answers to a task that can be asked: a reply ID of the task's row or 7, and a value that fits. Assumes nothing.
 use mathlib.Core.Path.{_≡_, refl, sym, ap, _∙_}
 use mathlib.Core.Logic.{_⊎_, inl, inr}
-use mathlib.Core.Bool.{Bool, true, false, not, _&&_, _||_, cond, false≢true}
+use mathlib.Core.Bool.{Bool, true, false, _&&_, _||_, cond, false≢true}
 use mathlib.Core.List.{List}
-use Prim.Native.Nat.{ℕ, _+_, _-_, _*_, _/_, _%_, _^_, _≤_, _<_}
+use Prim.Native.Nat.{ℕ, _+_, _-_, _%_, _≤_, _<_}
 use native.Mathlib.Omega.{arith}
 use native.Mathlib.Nat.{add-zero}
-use borrow.Author.Tests.{eq-eqb, eqb-true, eqb-false, leb-true, le-ltb, not-true, ne-eqb}
-use lib.Dec.{eqb, ltb, leb, lit≤}
-use lib.ListN.{getD, length}
+use borrow.Author.Tests.{eq-eqb, eqb-false, leb-true, le-ltb, not-true, ne-eqb}
+use lib.Dec.{eqb, lit≤}
+use lib.ListN.{getD}
 use Rattle.rows.proofs.RowsLaws.{row-passed}
 use Rattle.rows.proofs.RangeLaws.{between}
 use Rattle.setup.specs.declared.Setup.{Setup}
-use Rattle.entry.specs.declared.Entry.{Entry}
 use Rattle.entry.specs.Fields.{countOf}
 use Rattle.entry.specs.Limits.{fitsIn, isWithin}
 use Rattle.entry.proofs.LimitsLaws.{ruled, within-fits}
@@ -36,7 +35,7 @@ use Rattle.task.specs.Task.{tasks, taskOf}
 use Rattle.task.specs.Page.{fullNumber, named}
 use Rattle.task.specs.Verdict.{errorNumber, refusesAct, changesAct, countsAct, otherWidth, noArray, noElement, noRoom, verdictOf, elementOf}
 use Rattle.request.specs.Request.{valueFits}
-use Rattle.slave.specs.Perform.{Performed, replyArea, errorArea, carried, readReply, elementCount, doneOf, answered, verdictFor, performOn, performFound, foundOf, idle, performTask, performOf}
+use Rattle.slave.specs.Perform.{replyArea, errorArea, carried, readReply, elementCount, doneOf, verdictFor, performOn, performFound, foundOf, idle, performTask}
 use Rattle.slave.proofs.PerformLaws.{granted-element, task-denied, task-granted}
 use Rattle.reply.specs.Reply.{inRow, isDoubleId, misfit}
 use Rattle.claims_master.proofs.ReplyLaws.{Suits}

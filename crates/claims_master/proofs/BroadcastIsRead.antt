@@ -1,7 +1,7 @@
 -- Each slave with the same areas takes a broadcast as it was asked. Assumes nothing.
-use mathlib.Core.Path.{_≡_, refl, sym, ap, _∙_}
+use mathlib.Core.Path.{_≡_, refl, ap, _∙_}
 use mathlib.Core.Logic.{_⊎_, inl, inr}
-use mathlib.Core.Bool.{Bool, true, false, not, _&&_, cond}
+use mathlib.Core.Bool.{true, false, not}
 use mathlib.Core.List.{List}
 use Prim.Native.Nat.{ℕ, _+_, _-_, _*_, _/_, _%_, _≤_, _<_}
 use native.Mathlib.Omega.{arith}
@@ -19,7 +19,7 @@ use Rattle.frame.specs.Address.{decodedOf, kindOf}
 use Rattle.frame.specs.declared.Address.{Address}
 use Rattle.frame.specs.declared.Decoded.the-variants.{Broadcast as BroadcastTelegram}
 use Rattle.net.specs.declared.Area.{Area}
-use Rattle.net.specs.Net.{areaWords, netOf}
+use Rattle.net.specs.Net.{netOf}
 use Rattle.net.specs.Read.{processAt}
 use Rattle.net.specs.Telegram.{telegramOf}
 use Rattle.net.proofs.NetLaws.{area-all}
@@ -31,7 +31,7 @@ use Rattle.request.specs.declared.Request.the-variants.{Broadcast}
 use Rattle.request.specs.Request.{unusedZero, commandOf, expressible}
 use Rattle.slave.specs.declared.Served.{Served}
 use Rattle.slave.specs.declared.Answer.the-variants.{Taken}
-use Rattle.slave.specs.Slave.{outcome, firstWord, commandAt, broadcastCase, executeOf}
+use Rattle.slave.specs.Slave.{firstWord, commandAt}
 use Rattle.slave.proofs.CaseLaws.{executed, broadcast-taken}
 use Rattle.master.specs.Build.{commandArea, telegramFor}
 use Rattle.claims_master.specs.Claims.{BroadcastRead}

@@ -7,3 +7,4 @@ pub mod BroadcastIsRead
 pub mod ReplyLaws
 pub mod AnswerLaws
 pub mod ReplyIsRead
+pub mod RoundTrip

@@ -1,5 +1,5 @@
 -- A slave of the same set-up answers a mirror with the telegram. Assumes nothing.
-use mathlib.Core.Path.{_≡_, refl, sym, ap, _∙_}
+use mathlib.Core.Path.{_≡_, refl, ap, _∙_}
 use mathlib.Core.Bool.{true}
 use mathlib.Core.List.{List}
 use Prim.Native.Nat.{ℕ, _+_}
@@ -17,7 +17,7 @@ use Rattle.net.proofs.SealLaws.{net-back}
 use Rattle.request.specs.declared.Request.the-variants.{Mirror}
 use Rattle.request.specs.Request.{expressible}
 use Rattle.request.proofs.RequestLaws.{mirror-asked}
-use Rattle.slave.specs.Slave.{outcome, written, mirrorCase, executeDecoded, executeOf}
+use Rattle.slave.specs.Slave.{outcome, written, mirrorCase, executeDecoded}
 use Rattle.slave.specs.declared.Answer.the-variants.{Mirrored}
 use Rattle.slave.proofs.CaseLaws.{executed}
 use Rattle.master.specs.Build.{telegramFor}

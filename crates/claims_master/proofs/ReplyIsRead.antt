@@ -1,9 +1,9 @@
 -- The master reads the slave's reply to a task as what the slave answered: never 33. Assumes nothing.
 use mathlib.Core.Path.{_≡_, refl, sym, ap, _∙_}
 use mathlib.Core.Logic.{_⊎_, inl, inr}
-use mathlib.Core.Bool.{Bool, true, false, not, _&&_, cond}
+use mathlib.Core.Bool.{Bool, true, false, cond}
 use mathlib.Core.List.{List}
-use Prim.Native.Nat.{ℕ, _+_, _-_, _*_, _/_, _%_, _≤_, _<_}
+use Prim.Native.Nat.{ℕ, _+_, _-_, _<_}
 use native.Mathlib.Omega.{arith}
 use borrow.Author.Tests.{eq-eqb, ne-eqb, eqb-true, eqb-false}
 use lib.Dec.{eqb, lit<}
@@ -11,37 +11,32 @@ use lib.ListN.{getD}
 use Rattle.rows.proofs.BoolLaws.{and-left}
 use Rattle.words.specs.declared.Words.{Words}
 use Rattle.setup.specs.declared.Setup.{Setup}
-use Rattle.setup.specs.SetupRules.{setupOk, netBytes}
+use Rattle.setup.specs.SetupRules.{netBytes}
 use Rattle.setup.proofs.SetupLaws.{Configured, configured}
-use Rattle.frame.specs.Address.{decodedOf}
 use Rattle.frame.specs.declared.Decoded.{Decoded}
-use Rattle.frame.specs.declared.Decoded.the-variants.{Normal}
 use Rattle.opening.specs.declared.Opening.the-variants.{Passed}
 use Rattle.opening.specs.Answers.{openingOf}
 use Rattle.opening.proofs.AnswersLaws.{opened}
 use Rattle.net.specs.declared.Area.{Area}
 use Rattle.net.specs.Net.{netOf}
-use Rattle.net.specs.Read.{areaAt, processAt}
 use Rattle.net.specs.Telegram.{telegramOf}
 use Rattle.net.proofs.ReadLaws.{Headed, Worded, firstWords, process-back}
-use Rattle.task.specs.declared.Task.{Task as TaskKind}
 use Rattle.task.specs.Task.{tasks, taskOf}
 use Rattle.task.proofs.PageLaws.{named-back, id-back}
 use Rattle.request.specs.declared.Request.the-variants.{Task}
-use Rattle.request.specs.Request.{unusedZero, taskFits, taskAskable, expressible}
+use Rattle.request.specs.Request.{unusedZero, taskFits, expressible}
 use Rattle.request.proofs.RequestLaws.{Idle, Asked, task-asked}
 use Rattle.slave.specs.Slave.{taskDone, replyOf}
-use Rattle.slave.specs.Perform.{Performed, emptyArea, idle, performTask, performOf}
+use Rattle.slave.specs.Perform.{Performed, emptyArea, performTask, performOf}
 use Rattle.master.specs.Build.{taskArea, telegramFor}
-use Rattle.reply.specs.declared.Reading.{Reading}
 use Rattle.reply.specs.declared.Content.the-variants.{Empty}
 use Rattle.reply.specs.declared.ReadAnswer.the-variants.{Read}
-use Rattle.reply.specs.Reply.{badReply, contentOf, zeroWords, readNormal, readDecoded, readTask, readOf}
+use Rattle.reply.specs.Reply.{contentOf, zeroWords, readNormal, readDecoded, readTask, readOf}
 use Rattle.claims_master.specs.Claims.{ReplyRead}
 use Rattle.claims_master.proofs.SentLaws.{normal-decoded}
 use Rattle.claims_master.proofs.TaskIsRead.{area-words, Carried, carried-of, normal-area, task-is-read}
 use Rattle.claims_master.proofs.ReplyLaws.{Replies, empty-replies, suited-replies, reply-echoes}
-use Rattle.claims_master.proofs.AnswerLaws.{Answers, task-answers}
+use Rattle.claims_master.proofs.AnswerLaws.{task-answers}
 
 -- ---- the reading of a telegram of the set-up
 

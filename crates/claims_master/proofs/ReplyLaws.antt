@@ -1,11 +1,11 @@
 -- What a parameter area must be to be read as the reply to a task. Assumes nothing.
 use mathlib.Core.Path.{_≡_, refl, sym, ap, _∙_}
 use mathlib.Core.Logic.{_⊎_, inl, inr}
-use mathlib.Core.Bool.{Bool, true, false, not, _||_, cond}
+use mathlib.Core.Bool.{Bool, true, false, _||_, cond}
 use Prim.Native.Nat.{ℕ, _+_, _-_, _*_, _/_, _%_, _^_, _≤_, _<_}
 use native.Mathlib.Omega.{arith}
-use borrow.Author.Tests.{eq-eqb, ne-eqb, eqb-true, ltb-false, le-ltb}
-use lib.Dec.{eqb, ltb, lit<}
+use borrow.Author.Tests.{eq-eqb, ne-eqb, eqb-true, ltb-false}
+use lib.Dec.{eqb, lit<}
 use Rattle.net.specs.declared.Area.{Area}
 use Rattle.net.proofs.ReadLaws.{Headed}
 use Rattle.task.specs.declared.Act.{Act}
@@ -15,7 +15,7 @@ use Rattle.task.proofs.PageLaws.{nibble-small, ind-nibble, ind-index, base-back
 use Rattle.slave.specs.Perform.{emptyArea, replyArea}
 use Rattle.master.specs.Build.{taskArea}
 use Rattle.reply.specs.declared.Content.the-variants.{Value, Failed}
-use Rattle.reply.specs.Reply.{inRow, knownId, isDoubleId, misfit, otherEcho, notEmpty, badReply, contentOf, contentId, contentValue}
+use Rattle.reply.specs.Reply.{inRow, knownId, misfit, otherEcho, notEmpty, badReply, contentOf, contentId, contentValue}
 
 -- an area that is read as the reply to a task, with its own reply ID and value
 pub record Replies (n id number index : ℕ) (p : Area) : Type 0 where

@@ -1,8 +1,7 @@
 -- What a telegram of given net bytes is decoded as, by its address byte. Assumes nothing.
-use mathlib.Core.Path.{_≡_, refl, sym, ap, _∙_}
-use mathlib.Core.Bool.{Bool, true, false}
+use mathlib.Core.Path.{_≡_, refl, ap, _∙_}
 use mathlib.Core.List.{List}
-use Prim.Native.Nat.{ℕ, _+_, _/_, _%_, _≤_, _<_}
+use Prim.Native.Nat.{ℕ, _+_, _/_, _%_, _≤_}
 use native.Mathlib.Omega.{arith}
 use borrow.Author.Tests.{lt-leb, eq-eqb, ne-eqb}
 use lib.ListN.{length}
@@ -10,7 +9,7 @@ use Rattle.words.specs.declared.Words.{Words}
 use Rattle.frame.specs.Address.{addressOf, kindOf, decodedFrom, decodedOf}
 use Rattle.frame.specs.declared.FrameCheck.{FrameCheck}
 use Rattle.frame.specs.declared.Address.the-variants.{ToOne, ToMirror, ToAll}
-use Rattle.frame.specs.declared.Decoded.the-variants.{Normal, Mirror, Broadcast}
+use Rattle.frame.specs.declared.Decoded.the-variants.{Normal}
 use Rattle.setup.specs.declared.Setup.{Setup}
 use Rattle.setup.specs.SetupRules.{netBytes}
 use Rattle.setup.proofs.SetupLaws.{Configured, area-few}

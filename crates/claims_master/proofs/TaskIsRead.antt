@@ -1,5 +1,5 @@
 -- A slave of the same set-up reads a task telegram as the task that was asked. Assumes nothing.
-use mathlib.Core.Path.{_≡_, refl, sym, ap, _∙_}
+use mathlib.Core.Path.{_≡_, refl, ap, _∙_}
 use mathlib.Core.Logic.{_⊎_, inl, inr}
 use mathlib.Core.Bool.{Bool, true, false, not, _&&_, cond, false≢true}
 use mathlib.Core.List.{List}
@@ -7,7 +7,6 @@ use Prim.Native.Nat.{ℕ, _+_, _-_, _*_, _/_, _%_, _^_, _≤_, _<_}
 use native.Mathlib.Omega.{arith}
 use borrow.Author.Tests.{eqb-true, eqb-false, leb-true}
 use lib.Dec.{eqb}
-use lib.ListN.{length}
 use Rattle.rows.proofs.BoolLaws.{and-left}
 use Rattle.words.specs.declared.Words.{Words}
 use Rattle.setup.specs.declared.Setup.{Setup}
@@ -25,13 +24,12 @@ use Rattle.task.specs.declared.Act.the-variants.{Nothing, Read, Change, Count, 
 use Rattle.task.specs.declared.Width.{Width}
 use Rattle.task.specs.declared.Width.the-variants.{Either, Word, Double}
 use Rattle.task.specs.Task.{taskOf}
-use Rattle.task.specs.Page.{nibbleOf}
 use Rattle.task.proofs.PageLaws.{nibble-small, ind-index, number-back, named-back, id-back}
 use Rattle.request.specs.declared.Request.the-variants.{Task}
 use Rattle.request.specs.Request.{unusedZero, valueFits, taskFits, expressible}
 use Rattle.request.proofs.RequestLaws.{Idle, Asked, task-asked, asked-id}
 use Rattle.slave.specs.Slave.{firstWord, taskDone, controlTaken, executeOf, normalOutcome}
-use Rattle.slave.specs.Perform.{Performed, emptyArea, performOf}
+use Rattle.slave.specs.Perform.{emptyArea, performOf}
 use Rattle.slave.proofs.CaseLaws.{executed, normal-replied}
 use Rattle.master.specs.Build.{taskArea, telegramFor}
 use Rattle.claims_master.specs.Claims.{TaskRead}

@@ -4,10 +4,11 @@
 --     MirrorRead ..      the slave answers a mirror telegram with the telegram
 --     BroadcastRead ..   each slave with these areas takes a broadcast as it was asked
 --     ReplyRead ..       the master reads the slave's reply as what the slave answered
+--     RoundMade ..       the same of the bytes that a slave's call left
 use mathlib.Core.Path.{_≡_}
-use mathlib.Core.Bool.{Bool, true, false, not, _&&_, cond}
-use mathlib.Core.List.{List, [], _∷_}
-use Prim.Native.Nat.{ℕ, _+_, _-_, _*_, _/_, _%_, _≤_, _<_}
+use mathlib.Core.Bool.{true, false, not, _&&_, cond}
+use mathlib.Core.List.{List}
+use Prim.Native.Nat.{ℕ, _+_, _-_, _/_, _%_, _≤_, _<_}
 use lib.Dec.{eqb}
 use lib.ListN.{length, take, drop}
 use Rattle.words.specs.declared.Words.{Words}
@@ -16,20 +17,19 @@ use Rattle.frame.specs.Address.{decodedOf}
 use Rattle.frame.specs.declared.FrameCheck.the-variants.{Sound}
 use Rattle.frame.specs.declared.Decoded.the-variants.{Normal, Mirror as MirrorTelegram, Broadcast as BroadcastTelegram}
 use Rattle.setup.specs.declared.Setup.{Setup}
-use Rattle.setup.specs.SetupRules.{setupOk, netBytes}
+use Rattle.setup.specs.SetupRules.{netBytes}
 use Rattle.net.specs.declared.Area.{Area}
 use Rattle.net.specs.Read.{areaAt, processAt}
-use Rattle.net.specs.Telegram.{telegramOf}
 use Rattle.net.proofs.ReadLaws.{firstWords}
 use Rattle.task.specs.Page.{fullNumber, named}
 use Rattle.broadcast.specs.Broadcast.{isVoid, controlAfter}
 use Rattle.request.specs.declared.Request.{Request}
 use Rattle.request.specs.Request.{commandOf}
-use Rattle.slave.specs.Slave.{outcome, written, firstWord, commandAt, taskDone, controlTaken, replyOf, executeOf}
+use Rattle.slave.specs.Slave.{Outcome, outcome, written, firstWord, commandAt, taskDone, controlTaken, replyOf, executeOf}
 use Rattle.slave.specs.Perform.{emptyArea, performOf}
 use Rattle.slave.specs.declared.Answer.the-variants.{Replied, Mirrored, Taken}
 use Rattle.reply.specs.declared.Reading.{Reading}
-use Rattle.reply.specs.Reply.{readNumber, readId, readValue, zeroWords}
+use Rattle.reply.specs.Reply.{readNumber, readId, readValue, zeroWords, readOf}
 use Rattle.master.specs.Build.{BuildOutcome, taskArea, telegramFor}
 
 -- of the outcome o of a build into the buffer out
@@ -91,3 +91,9 @@ pub record ReplyRead (s : Setup) (area : Area) (status : Words) (r : Reading) : 
   pub process-is : r .process ≡ firstWords (s .pzd) status zeroWords
   -- the slave never answers that the master has no right
   pub not-8 : readId (r .answer) ≡ 8 → ⊥
+
+-- of the outcome o of a slave's call on the bytes rx of a request: it replied, and the master reads the reply's bytes as what the
+-- slave answered
+pub record RoundMade (s : Setup) (r : Request) (t vs : List ℕ) (status : Words) (rx : List ℕ) (o : Outcome) : Type 0 where
+  pub replied : o .served .answer ≡ Replied
+  pub read-is : ReplyRead s (taskDone (s .pkw) t vs rx .area) status (readOf s r (take (o .served .length) (o .reply)))

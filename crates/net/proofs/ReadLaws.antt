@@ -1,5 +1,5 @@
 -- What was written into a telegram is read back: its words, its parameter area and its process words. Assumes nothing.
-use mathlib.Core.Path.{_≡_, refl, sym, ap, _∙_}
+use mathlib.Core.Path.{_≡_, refl, ap, _∙_}
 use mathlib.Core.Bool.{Bool, true, false, cond}
 use mathlib.Core.List.{List, [], _∷_, _++_}
 use Prim.Native.Nat.{ℕ, zero, suc, _+_, _-_, _*_, _/_, _%_, _^_, _≤_, _<_}
@@ -10,13 +10,13 @@ use lib.ListN.{length, getD, take, length-append, List·getD-append}
 use lib.Seq.{getD-append-add, getD-take, length-take-le}
 use borrow.Author.Tests.{ltb-true}
 use Rattle.frame.specs.Bcc.{xorAll}
-use Rattle.words.specs.Words.{byteAt, wordAt}
+use Rattle.words.specs.Words.{wordAt}
 use Rattle.words.specs.declared.Words.{Words}
 use Rattle.net.specs.declared.Area.{Area}
 use Rattle.net.specs.Telegram.{bodyOf, telegramOf}
 use Rattle.net.specs.Net.{bytesOf, wordsOf, valueWords, areaWords, netOf}
 use Rattle.net.specs.Read.{valueAt, areaAt, wordTaken, processAt}
-use Rattle.net.proofs.NetLaws.{length-area, length-value, area-all}
+use Rattle.net.proofs.NetLaws.{length-area, area-all}
 
 -- ---- words
 
