@@ -143,7 +143,7 @@ first-hit t f d w = refuses (damaged t f) (λ h. omega (arith, exact t f d .0 h 
 pub second-hit : (t f : List ℕ) → Damage t f → Hit f 1 → Refuses (damaged t f)
 second-hit t f d w = refuses (damaged t f) (λ h. omega (arith, exact t f d .0 h .second))
 
--- ---- the length byte of the dryer hall
+-- ---- a length byte that promises more than was received
 
 pub long-promise : (t : List ℕ) → length t ≡ 16 → byteAt t 0 ≡ 2 → byteAt t 1 ≡ 254 → frameOf t ≡ Broken Count
 unfolding frameOf

@@ -60,7 +60,8 @@ pub record OneByte (f : List ℕ) (i : ℕ) : Type 0 where
 abbrev pub bitAt : (ℕ → ℕ) → List ℕ → ℕ → ℕ
 bitAt order f p = bit (order (p % 8)) (byteAt f (p / 8))
 
--- an order of a byte's eight bits on the wire; lowest bit first, as a UART sends them, and highest bit first are two
+-- which bit is sent when: any choice of one of a byte's eight bits for each of the eight places, so every order of them; lowest bit
+-- first, as a UART sends them, and highest bit first are two
 abbrev pub Order : (ℕ → ℕ) → Type 0
 Order order = (k : ℕ) → k < 8 → order k < 8
 

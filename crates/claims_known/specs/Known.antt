@@ -2,7 +2,7 @@
 -- document says. Slave and master have four parameter words in all of them.
 --     known        the list, K1 to K12 in order
 use Prim.Native.Nat.{ℕ, _/_, _%_}
-use mathlib.Core.List.{List, [], _∷_, _++_}
+use mathlib.Core.List.{List, [], _∷_}
 use lib.ListN.{replicate, take}
 use Rattle.words.specs.declared.Words.{Words}
 use Rattle.setup.specs.declared.Setup.{Setup}
@@ -10,10 +10,11 @@ use Rattle.frame.specs.Bcc.{xorAll}
 use Rattle.net.specs.declared.Area.{Area}
 use Rattle.net.specs.Net.{wordsOf}
 use Rattle.net.specs.Telegram.{telegramOf}
-use Rattle.slave.specs.Perform.{Performed, performOf}
+use Rattle.slave.specs.Perform.{performOf}
 use Rattle.slave.specs.Slave.{Outcome, answerNumber, callOf}
+use Rattle.request.specs.declared.Request.{Request}
 use Rattle.request.specs.declared.Request.the-variants.{Task}
-use Rattle.master.specs.Build.{taskArea, telegramFor}
+use Rattle.master.specs.Build.{BuildOutcome, builtNumber, taskArea, builtOf}
 
 -- what the definitions give, and what the document says
 abbrev pub Case : Type 0
@@ -44,8 +45,14 @@ abbrev pub task1082 : ℕ → ℕ → List ℕ
 task1082 lge last =
     0x02 ∷ lge ∷ 0x03 ∷ 0x14 ∷ 0x3A ∷ 0x00 ∷ 0x00 ∷ 0x00 ∷ 0x00 ∷ 0x00 ∷ 0x00 ∷ 0x04 ∷ 0x7F ∷ 0x20 ∷ 0x00 ∷ last ∷ []
 
+-- the answer's number, the length, and the telegram
+abbrev pub built : Request → List ℕ
+built request =
+    let o = builtOf setup request [] buffer in
+    builtNumber (o .built .answer) ∷ o .built .length ∷ take (o .built .length) (o .out)
+
 abbrev pub k2 : Case
-k2 = (telegramFor setup (Task 1 1082 0 0 (words 0x047F 0x2000)) [], task1082 0x0E 0x7A)
+k2 = (built (Task 1 1082 0 0 (words 0x047F 0x2000)), 0 ∷ 16 ∷ task1082 0x0E 0x7A)
 
 -- ---- K3, K4, K5, K6: the slave's answers to it
 

@@ -3,7 +3,6 @@
 --     addressOf adr     what the address byte says
 --     decodedOf t       the bytes t as a telegram of one of the three kinds, or the first of 10 to 15 that applies
 --     faultNumber f     the document's number of a fault
---     decodedNumber d   the document's number of a decoded telegram, 0 where none of 10 to 15 applies
 use Prim.Native.Nat.{ℕ, _/_, _%_}
 use mathlib.Core.Bool.{Bool, true, false, _&&_}
 use mathlib.Core.List.{List, [], _∷_}
@@ -49,9 +48,3 @@ decodedOf t = decodedFrom (frameOf t) (byteAt t 2)
 abbrev pub faultNumber : Fault → ℕ
 faultNumber (InFrame fault) = frameNumber fault
 faultNumber InAddress = 15
-
-abbrev pub decodedNumber : Decoded → ℕ
-decodedNumber (Normal node start end) = 0
-decodedNumber (Mirror node) = 0
-decodedNumber Broadcast = 0
-decodedNumber (Refused fault) = faultNumber fault

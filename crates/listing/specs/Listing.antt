@@ -45,6 +45,6 @@ piecesOf t (Refused fault) = refusedPieces (length t) (faultNumber fault)
 unfoldable pub listing : List ℕ → List ℕ
 listing t = joined (piecesOf t (decodedOf t))
 
--- bytes past the first 300 are ignored, and not counted
+-- bytes past the first 300 are ignored, and not counted; a text that does not fit is not written (ours)
 unfoldable pub listedOf : List ℕ → List ℕ → Placed
 listedOf received out = putOut out 0 (listing (take 300 received))

@@ -122,7 +122,8 @@ mirrorCase node s control rx out =
 
 -- ---- broadcast: no reply
 
--- the parameter area: selector, two masks, and a fourth word where there is one
+-- the parameter area: selector, two masks, and a fourth word where there is one; in three words there is none, and the condition
+-- on it holds (ours)
 unfoldable pub commandAt : List ℕ → ℕ → Command
 commandAt rx n = record { selector = wordAt rx 3; mask1 = wordAt rx 5; mask2 = wordAt rx 7; fourth = cond (eqb n 4) (wordAt rx 9) 0 }
 

@@ -1,4 +1,5 @@
--- The records of a table of bytes (document 01, Parameter table): whole records of 12 bytes, their numbers, their places.
+-- The records of a table of bytes (document 01, Parameter table): whole records of 12 bytes, their numbers, their places. A record
+-- past the table's end reads as zeros (ours).
 --     entryAt t k           record k: 32 bits of fields, minimum, maximum
 --     entriesFrom t n k     n records, from record k on
 --     entries t             all the whole records of a table
