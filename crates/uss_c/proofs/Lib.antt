@@ -1,0 +1,3 @@
+-- Laws behind the calls for C.
+pub mod LengthLaws
+pub mod HostLaws
