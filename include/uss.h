@@ -173,7 +173,7 @@ uss_reply uss_read_reply(uss_setup setup, uint8_t task, uint16_t parameter, uint
 /* ---- bytes */
 
 /* Writes a text that describes the first 300 received bytes to the start of `out`, with no 0 byte behind it, and returns its
- * length, 41 to 64 bytes. Where `out` is too short it writes nothing and returns 0. */
+ * length, at most 64. Where `out` is too short it writes nothing and returns 0. */
 uint32_t uss_list(const uint8_t *received, size_t received_len, uint8_t *out, size_t out_len);
 
 /* The XOR of all bytes; 0 of none. BCC is that of all bytes before it, the 02 included. */

@@ -250,6 +250,18 @@ pub extern "C" fn uss_slave(
 
 // ---- the master
 
+fn ask_task(task: u8, parameter: u16, index: u8, value: u32, process: UssWords) -> Request
+    ensures { λ r. ⌜ r ≡ Task task parameter index value (wordsOf process) ⌝ }
+{
+    Request::Task {
+        id: task,
+        number: parameter,
+        index,
+        value,
+        process: take_words(process),
+    }
+}
+
 // The telegram of a request, as a build for C returns it.
 fn build(setup: Setup, request: Request, net: &[u8], out: &mut [u8]) -> UssBuilt
     ensures { λ r. ⌜ BuildLeaves (builtOf setup request (now (net .entry)) (now (out .entry))) r (now (out .exit)) ⌝ }
@@ -274,13 +286,7 @@ pub extern "C" fn uss_build_task(
 ) -> UssBuilt
     ensures { λ r. ⌜ BuildLeaves (builtOf (setupOf setup) (Task task parameter index value (wordsOf process)) [] (now (out .entry))) r (now (out .exit)) ⌝ }
 {
-    let request = Request::Task {
-        id: task,
-        number: parameter,
-        index,
-        value,
-        process: take_words(process),
-    };
+    let request = ask_task(task, parameter, index, value, process);
     build(take_setup(setup), request, b"", out)
 }
 
@@ -323,14 +329,11 @@ pub extern "C" fn uss_read_reply(
 ) -> UssReply
     ensures { λ r. ⌜ ReplyGives (readOf (setupOf setup) (Task task parameter index value (wordsOf process)) (now (received .entry))) r ⌝ }
 {
-    let request = Request::Task {
-        id: task,
-        number: parameter,
-        index,
-        value,
-        process: take_words(process),
-    };
-    let reading = reply::read(take_setup(setup), request, received);
+    let reading = reply::read(
+        take_setup(setup),
+        ask_task(task, parameter, index, value, process),
+        received,
+    );
     let answer = reading.answer;
     UssReply {
         number: number_read(answer),

@@ -11,16 +11,16 @@ use Rattle.uss_c.proofs.give_id.Reads as give-id-reads
 use Rattle.uss_c.proofs.give_value.Reads as give-value-reads
 use Rattle.uss_c.proofs.give_words.Reads as give-words-reads
 use Rattle.uss_c.proofs.number_read.Reads as number-read-reads
+use Rattle.uss_c.proofs.ask_task.Reads as ask-task-reads
 use Rattle.uss_c.proofs.take_setup.Reads as take-setup-reads
-use Rattle.uss_c.proofs.take_words.Reads as take-words-reads
-
--- src/lib.rt:331:18
-take-words-requires : tie.Need-take-words-requires
-take-words-requires c κs = search needs
 
 -- src/lib.rt:333:31
 take-setup-requires : tie.Need-take-setup-requires
 take-setup-requires c κs = search needs
+
+-- src/lib.rt:331:18
+ask-task-requires : tie.Need-ask-task-requires
+ask-task-requires c κs = search needs
 
 -- src/lib.rt:333:9
 read-requires : tie.Need-read-requires
@@ -50,15 +50,15 @@ returns c =
     let n = i .before in
     let r = n .before in
     let u = r .before in
-    rw (← (u .take-setup .ensures), ← (u .before .take-words .ensures))
+    rw (← (u .before .take-setup .ensures), ← (u .ask-task .ensures))
     (reply-gives (r .read .ensures) (n .number-read .ensures) (i .give-id .ensures) (v .give-value .ensures) (c .give-words .ensures))
 
 pub uss-read-reply-spec : {M : Type 1} → statement M
 uss-read-reply-spec =
     tie.close
     (tie.spec
-    take-words-requires
     take-setup-requires
+    ask-task-requires
     read-requires
     number-read-requires
     give-id-requires
