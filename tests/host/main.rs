@@ -227,6 +227,11 @@ fn good_records(d: &mut Dice) -> Vec<model::Record> {
     for left in (1..=count).rev() {
         let widest = (31999 - number).saturating_sub(left) / left;
         number += if d.one_in(3) { 0 } else { d.below(widest.min(3000) + 1) };
+        // a number that a base of 2000 to 2047 would name too
+        let next_page = (number / 2000 + 1) * 2000 + d.below(48);
+        if d.one_in(3) && next_page + left <= 31999 {
+            number = next_page;
+        }
         let double = d.one_in(2);
         let is_signed = d.one_in(2);
         let elements = if d.one_in(2) { 0 } else { d.pick(&[1, 2, 3, 4, 5, 17, 254]).min((room - left).max(1)) };
@@ -378,8 +383,11 @@ fn any_task(d: &mut Dice, drive: &Drive) -> Task {
 
 /// The task's words as they travel, with ignored bits set by chance.
 fn travelling(d: &mut Dice, s: Setup, t: &Task) -> Vec<u16> {
-    let (page, mut base) = (t.parameter as u32 / 2000, t.parameter % 2000);
-    if d.one_in(40) {
+    let (mut page, mut base) = (t.parameter as u32 / 2000, t.parameter % 2000);
+    if page > 0 && base < 48 && d.one_in(8) {
+        page -= 1;
+        base += 2000;
+    } else if d.one_in(40) {
         base = 2000 + d.below(48) as u16;
     }
     let mut area = vec![
