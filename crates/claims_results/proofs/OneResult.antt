@@ -49,6 +49,14 @@ use Rattle.text.proofs.put_number.Reads as text-put-number
 use Rattle.listing.proofs.list.Reads as listing-list
 use Rattle.slave.proofs.serve.Reads as slave-serve
 use Rattle.master.proofs.build.Reads as master-build
+use Rattle.uss_c.proofs.uss_slave.Reads as uss-slave
+use Rattle.uss_c.proofs.uss_build_task.Reads as uss-build-task
+use Rattle.uss_c.proofs.uss_build_mirror.Reads as uss-build-mirror
+use Rattle.uss_c.proofs.uss_build_broadcast.Reads as uss-build-broadcast
+use Rattle.uss_c.proofs.uss_read_reply.Reads as uss-read-reply
+use Rattle.uss_c.proofs.uss_list.Reads as uss-list
+use Rattle.uss_c.proofs.uss_bcc.Reads as uss-bcc
+use Rattle.uss_c.proofs.SameLaws.{slave-same, build-same, reply-same}
 
 -- what is equal to the same definition is equal
 pub one-result : {A : Type 0} {d r r′ : A} → r ≡ d → r′ ≡ d → r ≡ r′
@@ -228,3 +236,43 @@ master-build-one κs a r r′ s s′ p p′ = one-result (p .answers) (p′ .ans
 
 pub master-build-buffer : OneExit master-build.Post (λ κs s. now (s .1 .1 .1 .0))
 master-build-buffer κs a r r′ s s′ p p′ = one-result (p .bytes-are) (p′ .bytes-are)
+
+-- the calls for C
+pub uss-slave-one : OneResult uss-slave.Post
+uss-slave-one κs a r r′ s s′ p p′ = slave-same _ r r′ _ _ _ _ p p′ .0
+
+pub uss-slave-values : OneExit uss-slave.Post (λ κs s. now (s .1 .1 .0))
+uss-slave-values κs a r r′ s s′ p p′ = one-result (p .values-are) (p′ .values-are)
+
+pub uss-slave-buffer : OneExit uss-slave.Post (λ κs s. now (s .1 .1 .1 .1 .1 .1 .0))
+uss-slave-buffer κs a r r′ s s′ p p′ = one-result (p .reply-is) (p′ .reply-is)
+
+pub uss-build-task-one : OneResult uss-build-task.Post
+uss-build-task-one κs a r r′ s s′ p p′ = build-same _ r r′ _ _ p p′ .0
+
+pub uss-build-task-buffer : OneExit uss-build-task.Post (λ κs s. now (s .1 .1 .1 .1 .1 .1 .0))
+uss-build-task-buffer κs a r r′ s s′ p p′ = one-result (p .bytes-are) (p′ .bytes-are)
+
+pub uss-build-mirror-one : OneResult uss-build-mirror.Post
+uss-build-mirror-one κs a r r′ s s′ p p′ = build-same _ r r′ _ _ p p′ .0
+
+pub uss-build-mirror-buffer : OneExit uss-build-mirror.Post (λ κs s. now (s .1 .1 .0))
+uss-build-mirror-buffer κs a r r′ s s′ p p′ = one-result (p .bytes-are) (p′ .bytes-are)
+
+pub uss-build-broadcast-one : OneResult uss-build-broadcast.Post
+uss-build-broadcast-one κs a r r′ s s′ p p′ = build-same _ r r′ _ _ p p′ .0
+
+pub uss-build-broadcast-buffer : OneExit uss-build-broadcast.Post (λ κs s. now (s .1 .1 .1 .1 .1 .0))
+uss-build-broadcast-buffer κs a r r′ s s′ p p′ = one-result (p .bytes-are) (p′ .bytes-are)
+
+pub uss-read-reply-one : OneResult uss-read-reply.Post
+uss-read-reply-one κs a r r′ s s′ p p′ = reply-same _ r r′ p p′
+
+pub uss-list-one : OneResult uss-list.Post
+uss-list-one κs a r r′ s s′ p p′ = one-result (p .0) (p′ .0)
+
+pub uss-list-buffer : OneExit uss-list.Post (λ κs s. now (s .1 .0))
+uss-list-buffer κs a r r′ s s′ p p′ = one-result (p .1) (p′ .1)
+
+pub uss-bcc-one : OneResult uss-bcc.Post
+uss-bcc-one κs a r r′ s s′ = one-result

@@ -1,0 +1,57 @@
+-- From what a call of the library leaves to what the call for C says of it. Assumes nothing.
+use mathlib.Core.Path.{_≡_, refl, sym, ap, _∙_}
+use mathlib.Core.List.{List}
+use Prim.Native.Nat.{ℕ, _≤_}
+use native.Mathlib.Omega.{arith}
+use Rattle.words.specs.declared.Words.{Words}
+use Rattle.setup.specs.declared.Setup.{Setup}
+use Rattle.slave.specs.declared.Served.{Served}
+use Rattle.slave.specs.Slave.{Leaves, Outcome, answerNumber, callOf}
+use Rattle.request.specs.declared.Request.{Request}
+use Rattle.master.specs.declared.Built.{Built}
+use Rattle.master.specs.Build.{Builds, BuildOutcome, builtNumber, builtOf}
+use Rattle.reply.specs.declared.Reading.{Reading}
+use Rattle.reply.specs.Reply.{readNumber, readId, readValue}
+use Rattle.uss_c.specs.declared.UssWords.{UssWords}
+use Rattle.uss_c.specs.Host.{hostWords, SlaveLeaves, BuildLeaves, ReplyGives}
+use Rattle.uss_c.proofs.LengthLaws.{call-most, built-most}
+
+-- ---- the slave
+
+pub served-fits : (s : Setup) (t vs : List ℕ) (control status : Words) (rx out : List ℕ) {r : Served} {vs′ out′ : List ℕ}
+    → Leaves (callOf s t vs control status rx out) r vs′ out′ → r .length ≤ 256
+served-fits s t vs control status rx out l = rw (l .answers) (call-most s t vs control status rx out)
+
+pub slave-leaves : {o : Outcome} {r : Served} {vs′ out′ : List ℕ} {n : ℕ} {k : UssWords}
+    → n ≡ answerNumber (r .answer) → k ≡ hostWords (r .control) → Leaves o r vs′ out′
+    → SlaveLeaves o (record { number = n; length = r .length; control = k }) vs′ out′
+slave-leaves e f l = record {
+  number-is = e ∙ ap (λ (x : Served). answerNumber (x .answer)) (l .answers);
+  length-is = ap (λ (x : Served). x .length) (l .answers);
+  control-is = f ∙ ap (λ (x : Served). hostWords (x .control)) (l .answers);
+  values-are = l .values-are;
+  reply-is = l .reply-is;
+}
+
+-- ---- the master
+
+pub built-fits : (s : Setup) (q : Request) (net out : List ℕ) {r : Built} {out′ : List ℕ} → Builds (builtOf s q net out) r out′ → r .length ≤ 256
+built-fits s q net out b = rw (b .answers) (built-most s q net out)
+
+pub build-leaves : {o : BuildOutcome} {r : Built} {out′ : List ℕ} {n : ℕ} → n ≡ builtNumber (r .answer) → Builds o r out′
+    → BuildLeaves o (record { number = n; length = r .length }) out′
+build-leaves e b = record {
+  number-is = e ∙ ap (λ (x : Built). builtNumber (x .answer)) (b .answers);
+  length-is = ap (λ (x : Built). x .length) (b .answers);
+  bytes-are = b .bytes-are;
+}
+
+pub reply-gives : {g r : Reading} {n i v : ℕ} {k : UssWords} → r ≡ g
+    → n ≡ readNumber (r .answer) → i ≡ readId (r .answer) → v ≡ readValue (r .answer) → k ≡ hostWords (r .process)
+    → ReplyGives g (record { number = n; id = i; value = v; process = k })
+reply-gives e a b c d = record {
+  number-is = a ∙ ap (λ (x : Reading). readNumber (x .answer)) e;
+  id-is = b ∙ ap (λ (x : Reading). readId (x .answer)) e;
+  value-is = c ∙ ap (λ (x : Reading). readValue (x .answer)) e;
+  process-is = d ∙ ap (λ (x : Reading). hostWords (x .process)) e;
+}

@@ -1,0 +1,4 @@
+-- Laws behind the calls for C.
+pub mod LengthLaws
+pub mod HostLaws
+pub mod SameLaws

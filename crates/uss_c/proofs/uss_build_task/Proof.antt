@@ -1,0 +1,47 @@
+-- `uss_c::uss_build_task` meets its contract. Assumes nothing.
+use borrow.Author.Needs.{needs}
+use Rattle.uss_c.proofs.uss_build_task.Statement.{statement}
+use Rattle.uss_c.proofs.uss_build_task.Tie as tie
+use Rattle.uss_c.proofs.uss_build_task.Reads as reads
+use Rattle.uss_c.proofs.uss_build_task.Lts as lts
+use Rattle.uss_c.proofs.build.Reads as build-reads
+use Rattle.uss_c.proofs.ask_task.Reads as ask-task-reads
+use Rattle.uss_c.proofs.take_setup.Reads as take-setup-reads
+
+-- src/lib.rt:284:11
+ask-task-requires : tie.Need-ask-task-requires
+ask-task-requires c κs = search needs
+
+-- src/lib.rt:282:18
+take-setup-requires : tie.Need-take-setup-requires
+take-setup-requires c κs = search needs
+
+-- src/lib.rt:284:39
+slice-aggregate-build : tie.Need-slice-aggregate-build
+slice-aggregate-build c = search needs
+
+-- src/lib.rt:284:5
+build-requires : tie.Need-build-requires
+build-requires c κs = search needs
+
+-- src/lib.rt:265:1
+same-length : tie.Need-same-length
+same-length c = search needs
+
+-- src/lib.rt:265:1
+returns : tie.Need-returns
+returns c =
+    let b = c .before .before in
+    let u = b .before .before .before in
+    rw (← (u .take-setup .ensures), ← (u .before .ask-task .ensures)) (b .build .ensures)
+
+pub uss-build-task-spec : {M : Type 1} → statement M
+uss-build-task-spec =
+    tie.close
+    (tie.spec
+    ask-task-requires
+    take-setup-requires
+    slice-aggregate-build
+    build-requires
+    same-length
+    returns)

@@ -1,0 +1,47 @@
+-- The calls for C in terms of the crates that do the work: structs field by field, answers as the document's numbers.
+--     setupOf s, wordsOf w     a struct that comes in
+--     hostWords w              four words that go out
+--     SlaveLeaves o r vs out   a slave call that returns r leaves the values vs and the buffer out, as the outcome o says
+--     BuildLeaves o r out      the same for a build
+--     ReplyGives g r           a reading g as it is returned
+use mathlib.Core.Path.{_≡_}
+use mathlib.Core.List.{List}
+use Prim.Native.Nat.{ℕ}
+use Rattle.setup.specs.declared.Setup.{Setup}
+use Rattle.words.specs.declared.Words.{Words}
+use Rattle.slave.specs.Slave.{Outcome, answerNumber}
+use Rattle.master.specs.Build.{BuildOutcome, builtNumber}
+use Rattle.reply.specs.declared.Reading.{Reading}
+use Rattle.reply.specs.Reply.{readNumber, readId, readValue}
+use Rattle.uss_c.specs.declared.UssSetup.{UssSetup}
+use Rattle.uss_c.specs.declared.UssWords.{UssWords}
+use Rattle.uss_c.specs.declared.UssAnswer.{UssAnswer}
+use Rattle.uss_c.specs.declared.UssBuilt.{UssBuilt}
+use Rattle.uss_c.specs.declared.UssReply.{UssReply}
+
+abbrev pub setupOf : UssSetup → Setup
+setupOf s = record { node = s .node; pkw = s .pkw; pzd = s .pzd }
+
+abbrev pub wordsOf : UssWords → Words
+wordsOf w = record { w1 = w .w1; w2 = w .w2; w3 = w .w3; w4 = w .w4 }
+
+abbrev pub hostWords : Words → UssWords
+hostWords w = record { w1 = w .w1; w2 = w .w2; w3 = w .w3; w4 = w .w4 }
+
+pub record SlaveLeaves (o : Outcome) (r : UssAnswer) (vs out : List ℕ) : Type 0 where
+  pub number-is : r .number ≡ answerNumber (o .served .answer)
+  pub length-is : r .length ≡ o .served .length
+  pub control-is : r .control ≡ hostWords (o .served .control)
+  pub values-are : vs ≡ o .values
+  pub reply-is : out ≡ o .reply
+
+pub record BuildLeaves (o : BuildOutcome) (r : UssBuilt) (out : List ℕ) : Type 0 where
+  pub number-is : r .number ≡ builtNumber (o .built .answer)
+  pub length-is : r .length ≡ o .built .length
+  pub bytes-are : out ≡ o .out
+
+pub record ReplyGives (g : Reading) (r : UssReply) : Type 0 where
+  pub number-is : r .number ≡ readNumber (g .answer)
+  pub id-is : r .id ≡ readId (g .answer)
+  pub value-is : r .value ≡ readValue (g .answer)
+  pub process-is : r .process ≡ hostWords (g .process)

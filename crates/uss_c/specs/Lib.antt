@@ -1,0 +1,2 @@
+-- What the calls for C return and leave.
+pub mod Host

@@ -1,0 +1,67 @@
+/* The smallest master host: asks the drive at node 3 for parameter 1082 and reads what it answers.
+ *
+ * Replace `exchange` by your serial port: send the telegram, and take the bytes that come until the line is quiet.
+ */
+#include "uss.h"
+
+#include <stdio.h>
+#include <string.h>
+
+/* As the drive is set up: node 3, four parameter words, two process words. */
+static const uss_setup setup = {3, 4, 2};
+
+/* ---- the line; here a drive that knows one telegram */
+
+static size_t exchange(const uint8_t *telegram, size_t n, uint8_t *reply, size_t room)
+{
+    static const uint8_t known[16] = {0x02, 0x0E, 0x03, 0x14, 0x3A, 0, 0, 0, 0, 0x13, 0x88, 0x03, 0x31, 0x20, 0x00, 0xA8};
+    size_t i;
+    printf("sent ");
+    for (i = 0; i < n; i++)
+        printf(" %02X", telegram[i]);
+    printf("\n");
+    if (room < sizeof known)
+        return 0;
+    memcpy(reply, known, sizeof known);
+    return sizeof known;
+}
+
+/* Asks for a parameter's value. Returns 0 and the value, or says why there is none. */
+static int ask(uint16_t parameter, uint32_t *value)
+{
+    static uint8_t telegram[USS_BUFFER], reply[300];
+    /* The control word with bit 10 set, so that the drive takes it, and the main set point. */
+    uss_words process = {0x047F, 0x2000, 0, 0};
+    uss_built b = uss_build_task(setup, USS_READ, parameter, 0, 0, process, telegram, sizeof telegram);
+    uss_reply r;
+    size_t n;
+
+    if (b.number != USS_DONE) {
+        printf("cannot be asked: %u\n", (unsigned)b.number);
+        return 1;
+    }
+    n = exchange(telegram, b.length, reply, sizeof reply);
+    r = uss_read_reply(setup, USS_READ, parameter, 0, 0, process, reply, n);
+    if (r.number != USS_DONE) {
+        printf("no reply to this task: %u\n", (unsigned)r.number);
+        return 1;
+    }
+    printf("status word %04X, actual value %04X\n", (unsigned)r.process.w1, (unsigned)r.process.w2);
+    if (r.id == USS_ID_ERROR) {
+        printf("the drive says error %u\n", (unsigned)r.value);
+        return 1;
+    }
+    *value = r.value;
+    return 0;
+}
+
+int main(void)
+{
+    uint32_t value;
+    if (ask(1082, &value) == 0)
+        printf("parameter 1082 is %u\n", (unsigned)value);
+    /* The known reply is that of 1082: it is not taken for another parameter's. */
+    if (ask(1083, &value) == 0)
+        printf("parameter 1083 is %u\n", (unsigned)value);
+    return 0;
+}

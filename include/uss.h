@@ -1,0 +1,186 @@
+/* USS slave and master: the calls for C.
+ *
+ * A telegram is the bytes 02, LGE, ADR, n net bytes, BCC; n = LGE - 2 is 1 to 252, so a telegram has 5 to 256 bytes. The
+ * net bytes are a parameter area (PKW) of 0, 3 or 4 words and a process area (PZD) of 0 to 4 words, high byte first.
+ *
+ * What holds of every call, for any input:
+ *   - it returns; it keeps no state, takes no memory and calls nothing else, so calls on different data may run at once;
+ *   - it reads only the bytes lent to it, and writes only what is named below;
+ *   - a refusal (a number of 10 and more) writes nothing, reports length 0, and gives back the control words it was given.
+ *
+ * What the caller owes: each pointer is valid for its count of elements for the time of the call, and properly aligned;
+ * what is written (values, reply, out) does not overlap anything else that is lent to the same call. A count of 0 may come
+ * with any pointer, NULL too.
+ *
+ * Structs go by value. Their layout is that of the C compiler for x86-64: no field is packed, sizes are 3, 8, 16, 8 and 20
+ * bytes in the order below.
+ */
+#ifndef USS_H
+#define USS_H
+
+#include <stddef.h>
+#include <stdint.h>
+
+#ifdef __cplusplus
+extern "C" {
+#endif
+
+/* A buffer for a reply or a built telegram has at least this many bytes, however short the telegram is. */
+#define USS_BUFFER 256
+/* A buffer of this many bytes takes every listing. */
+#define USS_LISTING 64
+/* A record of the parameter table has this many bytes; a table has at most 512 records and 4096 values. */
+#define USS_RECORD 12
+
+/* ---- answer numbers */
+
+enum uss_number {
+    USS_REPLIED = 0,         /* slave: a reply was written. build: the telegram was written. read: the reply was read */
+    USS_MIRRORED = 1,        /* slave: the telegram itself is the reply */
+    USS_TAKEN = 2,           /* slave: a broadcast was taken; there is no reply */
+
+    USS_SHORT = 10,          /* fewer than 5 bytes received */
+    USS_START = 11,          /* first byte not 02 */
+    USS_LGE = 12,            /* LGE not 3 to 254 */
+    USS_COUNT = 13,          /* byte count not LGE + 2 */
+    USS_CHECK = 14,          /* BCC wrong */
+    USS_ADDRESS = 15,        /* ADR bit 7, or bits 5 and 6 together; in a reply also bit 5 or bit 6 */
+    USS_OTHER_NODE = 16,     /* not a broadcast, and another node's */
+    USS_OTHER_LENGTH = 17,   /* not a mirror, and not 2 * (PKW + PZD) net bytes */
+    USS_VOID_BROADCAST = 18, /* a broadcast that commands nothing */
+
+    USS_BAD_SETUP = 20,      /* node over 31, PKW not 0, 3, 4, PZD over 4, or both 0 */
+    USS_BAD_TABLE = 21,      /* the table breaks a rule */
+    USS_BAD_VALUES = 22,     /* value count wrong, or a value outside its limits */
+    USS_SHORT_REPLY = 23,    /* reply buffer under 256 bytes */
+
+    USS_UNFIT_SETUP = 30,    /* master: set-up as 20 */
+    USS_NOT_ASKABLE = 31,    /* master: request not expressible */
+    USS_SHORT_OUT = 32,      /* master: buffer under 256 bytes */
+    USS_NOT_THE_REPLY = 33   /* master: a sound telegram, but no reply to this task */
+};
+#define USS_DONE USS_REPLIED
+
+/* ---- parameter errors: the value of a reply with ID 7 */
+
+enum uss_error {
+    USS_NO_PARAMETER = 0,    /* no such parameter */
+    USS_NOT_WRITABLE = 1,
+    USS_OUTSIDE_LIMITS = 2,
+    USS_NO_ELEMENT = 3,      /* array, and index not below its element count */
+    USS_NO_ARRAY = 4,        /* not an array, and index over 1 */
+    USS_OTHER_WIDTH = 5,     /* word task on a double parameter, or the reverse */
+    USS_NEEDS_FOUR = 102,    /* double parameter in a three-word area */
+    USS_NO_SUCH_TASK = 106   /* task 4, 5, 10 or 15 */
+};
+
+/* ---- task and reply IDs */
+
+enum uss_task {
+    USS_TASK_NONE = 0,
+    USS_READ = 1,
+    USS_CHANGE_WORD = 2,           /* 14 asks for saving too */
+    USS_CHANGE_DOUBLE = 3,         /* 13 asks for saving too */
+    USS_READ_ELEMENT = 6,
+    USS_CHANGE_ELEMENT_WORD = 7,   /* 12 asks for saving too */
+    USS_CHANGE_ELEMENT_DOUBLE = 8, /* 11 asks for saving too */
+    USS_COUNT_ELEMENTS = 9
+};
+
+enum uss_reply_id {
+    USS_ID_NONE = 0,           /* answer to task 0, or no parameter area */
+    USS_ID_WORD = 1,
+    USS_ID_DOUBLE = 2,
+    USS_ID_ELEMENT_WORD = 4,
+    USS_ID_ELEMENT_DOUBLE = 5,
+    USS_ID_ELEMENTS = 6,       /* answer to task 9 */
+    USS_ID_ERROR = 7,          /* the value is a parameter error */
+    USS_ID_NO_RIGHT = 8        /* the master has no right to change */
+};
+
+/* ---- structs */
+
+/* node 0 to 31; words of the parameter area, 0, 3 or 4; words of the process area, 0 to 4; not both 0. */
+typedef struct {
+    uint8_t node, pkw, pzd;
+} uss_setup;
+
+/* Control, status or process words, the first in w1. */
+typedef struct {
+    uint16_t w1, w2, w3, w4;
+} uss_words;
+
+/* A slave call's answer: length is that of the reply, 0 where there is none; control is the control state from now on. */
+typedef struct {
+    uint32_t number, length;
+    uss_words control;
+} uss_answer;
+
+/* A build's answer: length is that of the telegram, 0 in a refusal. */
+typedef struct {
+    uint32_t number, length;
+} uss_built;
+
+/* A reading's answer: reply ID, value or error number, and process words; all 0 in a refusal and where there are none. */
+typedef struct {
+    uint32_t number, id, value;
+    uss_words process;
+} uss_reply;
+
+/* ---- the slave
+ *
+ * table   records of 12 bytes, numbers rising. Bytes 0 to 3, most significant bit first: number 15 bits, double 1, signed 1,
+ *         writable 1, elements 8 (0 = no array), spare 6 (zero). Bytes 4 to 7 minimum, 8 to 11 maximum, high byte first.
+ *         A word's limits and values sit in the low 16 bits, upper half zero; a signed word's -100 is 0x0000FF9C.
+ * values  one number for each element (one where there is no array), in record order.
+ * control the control words as they stand; keep what the answer gives back, whatever its number is.
+ * status  what the reply carries as process words.
+ *
+ * Numbers in test order: 20 21 22 23, 10 11 12 13 14 15, 16 17 18, then 0, 1 or 2. All of 20 to 23 are tested at each call.
+ * Answer 0 writes the reply's bytes at the start of `reply` and leaves the rest; a change writes one place of `values`. A
+ * reply may carry a parameter error: it is a reply like any other. Answer 1 writes the received bytes to `reply`. Answer 2
+ * and every refusal write nothing.
+ */
+uss_answer uss_slave(uss_setup setup, const uint8_t *table, size_t table_len, uint32_t *values, size_t value_count,
+                     uss_words control, uss_words status, const uint8_t *received, size_t received_len,
+                     uint8_t *reply, size_t reply_len);
+
+/* ---- the master
+ *
+ * Numbers in test order: 30 31 32, then 0 with the telegram's bytes at the start of `out`, the rest left as it is.
+ */
+
+/* A task. Can be asked: task 0 with parameter, index and value 0; or, with an area, task 1-3, 6-9, 11-14, parameter at most
+ * 31999, index at most 254, value 0 for tasks 1, 6, 9 and at most 65535 for word changes, no double change in three words.
+ * Process words past PZD are 0. Else 31. */
+uss_built uss_build_task(uss_setup setup, uint8_t task, uint16_t parameter, uint8_t index, uint32_t value,
+                         uss_words process, uint8_t *out, size_t out_len);
+
+/* A mirror telegram of 1 to 252 net bytes; else 31. The node answers with the same bytes: compare them. */
+uss_built uss_build_mirror(uss_setup setup, const uint8_t *net, size_t net_len, uint8_t *out, size_t out_len);
+
+/* A broadcast to all nodes. Selector bit 1 selects the first process word, bit 2 the second; the masks say which of their
+ * bits are taken. 31 where it is void: PKW or PZD 0, the first word not selected, no bit 10 in mask1 or process.w1, a
+ * selector bit for another word or one not configured; also where a process word past PZD is not 0. */
+uss_built uss_build_broadcast(uss_setup setup, uint16_t selector, uint16_t mask1, uint16_t mask2,
+                              uss_words process, uint8_t *out, size_t out_len);
+
+/* Reads the reply to a task; give the task as it was built. Writes nothing.
+ * Numbers in test order: 30 31, 10 11 12 13 14 15, 16 17, 33, then 0. A value is returned without its sign. */
+uss_reply uss_read_reply(uss_setup setup, uint8_t task, uint16_t parameter, uint8_t index, uint32_t value,
+                         uss_words process, const uint8_t *received, size_t received_len);
+
+/* ---- bytes */
+
+/* Writes a text that describes the first 300 received bytes to the start of `out`, with no 0 byte behind it, and returns its
+ * length, at most 64. Where `out` is too short it writes nothing and returns 0. */
+uint32_t uss_list(const uint8_t *received, size_t received_len, uint8_t *out, size_t out_len);
+
+/* The XOR of all bytes; 0 of none. BCC is that of all bytes before it, the 02 included. */
+uint8_t uss_bcc(const uint8_t *bytes, size_t len);
+
+#ifdef __cplusplus
+}
+#endif
+
+#endif

@@ -1,0 +1,193 @@
+/* Each call once from C: known telegrams (K1 to K6, K9, K10 of document 01), and bad use. Prints a line for each group. */
+#define _DEFAULT_SOURCE
+#include "uss.h"
+
+#include <stdio.h>
+#include <stdlib.h>
+#include <string.h>
+#include <sys/mman.h>
+
+static int failed = 0;
+
+static void expect(int good, const char *what)
+{
+    if (!good) {
+        printf("FAILED: %s\n", what);
+        failed = 1;
+    }
+}
+
+/* `len` bytes that end where memory ends: one byte further is a crash. */
+static uint8_t *at_the_end(size_t len)
+{
+    size_t page = 4096;
+    uint8_t *p = mmap(NULL, 3 * page, PROT_READ | PROT_WRITE, MAP_PRIVATE | MAP_ANONYMOUS, -1, 0);
+    if (p == MAP_FAILED || mprotect(p + 2 * page, page, PROT_NONE) != 0) {
+        perror("mmap");
+        exit(2);
+    }
+    memset(p, 0xEE, 2 * page);
+    return p + 2 * page - len;
+}
+
+static int all_are(const uint8_t *bytes, size_t from, size_t to, uint8_t what)
+{
+    size_t i;
+    for (i = from; i < to; i++)
+        if (bytes[i] != what)
+            return 0;
+    return 1;
+}
+
+static int same_words(uss_words a, uss_words b)
+{
+    return a.w1 == b.w1 && a.w2 == b.w2 && a.w3 == b.w3 && a.w4 == b.w4;
+}
+
+static const uint8_t k2[16] = {0x02, 0x0E, 0x03, 0x14, 0x3A, 0, 0, 0, 0, 0, 0, 0x04, 0x7F, 0x20, 0, 0x7A};
+static const uint8_t k3[16] = {0x02, 0x0E, 0x03, 0x14, 0x3A, 0, 0, 0, 0, 0x13, 0x88, 0x03, 0x31, 0x20, 0, 0xA8};
+static const uint8_t k4[16] = {0x02, 0x0E, 0x03, 0x74, 0x3A, 0, 0, 0, 0, 0, 0, 0x03, 0x31, 0x20, 0, 0x53};
+/* parameter 1082, unsigned word, writable, 0 to 65000 */
+static const uint8_t record[12] = {0x08, 0x74, 0x40, 0, 0, 0, 0, 0, 0, 0, 0xFD, 0xE8};
+static const uss_setup setup = {3, 4, 2};
+static const uss_words command = {0x047F, 0x2000, 0, 0};
+static const uss_words status = {0x0331, 0x2000, 0, 0};
+static const uss_words held = {0x047E, 0x1111, 0x2222, 0x3333};
+static const uss_words none = {0, 0, 0, 0};
+
+static void known_telegrams(void)
+{
+    uint8_t *out = at_the_end(256), *reply = at_the_end(256), damaged[16], broadcast[16];
+    uint32_t value = 5000;
+    uss_built b;
+    uss_answer a;
+    uss_reply r;
+    uss_words after = {0x047F, 0x2000, 0x2222, 0x3333}, k9_after = {0x047F, 0x1111, 0x2222, 0x3333}, w = {0x0401, 0x2000, 0, 0};
+
+    expect(uss_bcc((const uint8_t *)"\x02\x07\x00\x04\x00\x21\x00\x1C", 8) == 0x3C, "K1, first");
+    expect(uss_bcc((const uint8_t *)"\x02\x05\x00\x00\x0C\x06", 6) == 0x0D, "K1, second");
+
+    b = uss_build_task(setup, USS_READ, 1082, 0, 0, command, out, 256);
+    expect(b.number == USS_DONE && b.length == 16 && memcmp(out, k2, 16) == 0, "K2 is built");
+    expect(all_are(out, 16, 256, 0xEE), "only the telegram is written");
+
+    a = uss_slave(setup, record, 12, &value, 1, held, status, k2, 16, reply, 256);
+    expect(a.number == USS_REPLIED && a.length == 16 && memcmp(reply, k3, 16) == 0, "K3 answers K2");
+    expect(same_words(a.control, after), "K2's process words are taken, the rest is held");
+    expect(all_are(reply, 16, 256, 0xEE) && value == 5000, "only the reply is written");
+    r = uss_read_reply(setup, USS_READ, 1082, 0, 0, command, k3, 16);
+    expect(r.number == USS_DONE && r.id == USS_ID_WORD && r.value == 5000 && same_words(r.process, status), "K3 is read");
+
+    a = uss_slave(setup, NULL, 0, NULL, 0, held, status, k2, 16, reply, 256);
+    expect(a.number == USS_REPLIED && a.length == 16 && memcmp(reply, k4, 16) == 0, "K4 answers K2 without such a parameter");
+    r = uss_read_reply(setup, USS_READ, 1082, 0, 0, command, k4, 16);
+    expect(r.number == USS_DONE && r.id == USS_ID_ERROR && r.value == USS_NO_PARAMETER, "K4 is read");
+
+    memset(reply, 0xEE, 256);
+    memcpy(damaged, k2, 16);
+    damaged[15] = 0x7B;
+    a = uss_slave(setup, record, 12, &value, 1, held, status, damaged, 16, reply, 256);
+    expect(a.number == USS_CHECK && a.length == 0 && same_words(a.control, held), "K5");
+    memcpy(damaged, k2, 16);
+    damaged[1] = 0x0F;
+    a = uss_slave(setup, record, 12, &value, 1, held, status, damaged, 16, reply, 256);
+    expect(a.number == USS_COUNT && a.length == 0, "K6");
+    expect(all_are(reply, 0, 256, 0xEE), "a refusal writes nothing");
+
+    b = uss_build_broadcast(setup, 6, 0x0401, 0, w, out, 256);
+    expect(b.number == USS_DONE && b.length == 16 && out[2] == 0x20, "K9 is built");
+    memcpy(broadcast, out, 16);
+    a = uss_slave(setup, record, 12, &value, 1, held, status, broadcast, 16, reply, 256);
+    expect(a.number == USS_TAKEN && a.length == 0 && same_words(a.control, k9_after), "K9");
+    b = uss_build_broadcast(setup, 2, 0xFFFF, 0, command, out, 256);
+    memcpy(broadcast, out, 16);
+    a = uss_slave(setup, record, 12, &value, 1, held, status, broadcast, 16, reply, 256);
+    expect(b.number == USS_DONE && a.number == USS_TAKEN && same_words(a.control, k9_after), "K10");
+    expect(all_are(reply, 0, 256, 0xEE), "a broadcast is not answered");
+
+    b = uss_build_mirror(setup, (const uint8_t *)"any", 3, out, 256);
+    expect(b.number == USS_DONE && b.length == 7 && out[2] == 0x43, "a mirror is built");
+    a = uss_slave(setup, record, 12, &value, 1, held, status, out, 7, reply, 256);
+    expect(a.number == USS_MIRRORED && a.length == 7 && memcmp(reply, out, 7) == 0 && same_words(a.control, held), "a mirror comes back");
+    puts("known telegrams");
+}
+
+static void short_buffers(void)
+{
+    uint8_t *small = at_the_end(255), *text = at_the_end(64);
+    uint32_t value = 5000;
+    const char *want = "telegram listing 1\nbytes 16 lge 14 node 3 normal\nbcc 122\n";
+    size_t n = strlen(want), room;
+
+    expect(uss_slave(setup, record, 12, &value, 1, held, status, k2, 16, small, 255).number == USS_SHORT_REPLY, "23");
+    expect(uss_build_task(setup, USS_READ, 1082, 0, 0, command, small, 255).number == USS_SHORT_OUT, "32, task");
+    expect(uss_build_mirror(setup, k2, 16, small, 255).number == USS_SHORT_OUT, "32, mirror");
+    expect(uss_build_broadcast(setup, 2, 0x400, 0, command, small, 255).number == USS_SHORT_OUT, "32, broadcast");
+    expect(all_are(small, 0, 255, 0xEE), "nothing is written to a short buffer");
+    for (room = 0; room < n; room++)
+        expect(uss_list(k2, 16, text + 64 - room, room) == 0, "no room for the listing");
+    expect(all_are(text, 0, 64, 0xEE), "nothing is written without room for all");
+    expect(uss_list(k2, 16, text + 64 - n, n) == n && memcmp(text + 64 - n, want, n) == 0, "the listing just fits");
+    puts("short buffers");
+}
+
+/* LGE says more than was received: the bytes end where memory ends. */
+static void lying_lengths(void)
+{
+    uint8_t *got = at_the_end(16), *reply = at_the_end(256), *text = at_the_end(64);
+    uint32_t value = 5000;
+    int lge;
+
+    for (lge = 0; lge < 256; lge++) {
+        uint32_t number;
+        memcpy(got, k2, 16);
+        got[1] = (uint8_t)lge;
+        number = lge == 14 ? USS_REPLIED : lge < 3 || lge > 254 ? USS_LGE : USS_COUNT;
+        expect(uss_slave(setup, record, 12, &value, 1, held, status, got, 16, reply, 256).number == number, "slave, LGE lies");
+        number = lge == 14 ? USS_DONE : lge < 3 || lge > 254 ? USS_LGE : USS_COUNT;
+        expect(uss_read_reply(setup, USS_READ, 1082, 0, 0, command, got, 16).number == number, "reading, LGE lies");
+        expect(uss_list(got, 16, text, 64) > 0, "listing, LGE lies");
+    }
+    puts("lying lengths");
+}
+
+static void empty_slices(void)
+{
+    uint8_t *reply = at_the_end(256), *end = at_the_end(0), *text = at_the_end(64);
+    uss_setup areas = {3, 0, 2};
+
+    expect(uss_slave(setup, NULL, 0, NULL, 0, held, status, NULL, 0, reply, 256).number == USS_SHORT, "nothing received");
+    expect(uss_slave(setup, NULL, 0, NULL, 0, held, status, NULL, 0, NULL, 0).number == USS_SHORT_REPLY, "nothing at all");
+    expect(uss_slave(setup, end, 0, (uint32_t *)(void *)end, 0, held, status, end, 0, end, 0).number == USS_SHORT_REPLY, "empty at the end");
+    expect(uss_slave(setup, record, 12, NULL, 0, held, status, k2, 16, reply, 256).number == USS_BAD_VALUES, "no values");
+    expect(uss_slave(setup, record, 11, NULL, 0, held, status, k2, 16, reply, 256).number == USS_BAD_TABLE, "half a record");
+    expect(uss_build_task(setup, 1, 1, 0, 0, none, NULL, 0).number == USS_SHORT_OUT, "no buffer for a task");
+    expect(uss_build_mirror(setup, NULL, 0, NULL, 0).number == USS_NOT_ASKABLE, "no net bytes");
+    expect(uss_build_broadcast(areas, 2, 0x400, 0, command, NULL, 0).number == USS_NOT_ASKABLE, "a broadcast without an area");
+    expect(uss_read_reply(setup, 1, 1, 0, 0, none, NULL, 0).number == USS_SHORT, "no reply");
+    expect(uss_read_reply(setup, 4, 1, 0, 0, none, NULL, 0).number == USS_NOT_ASKABLE, "no such task");
+    expect(uss_list(NULL, 0, NULL, 0) == 0, "no buffer for a listing");
+    expect(uss_list(NULL, 0, text, 64) == 38 && memcmp(text, "telegram listing 1\nbytes 0 refused 10\n", 38) == 0, "a listing of nothing");
+    expect(uss_bcc(NULL, 0) == 0, "the XOR of nothing");
+    expect(all_are(reply, 0, 256, 0xEE), "nothing was written");
+    puts("empty slices");
+}
+
+static void layouts(void)
+{
+    expect(sizeof(uss_setup) == 3 && sizeof(uss_words) == 8 && sizeof(uss_answer) == 16 && sizeof(uss_built) == 8 && sizeof(uss_reply) == 20, "sizes");
+    expect(offsetof(uss_answer, control) == 8 && offsetof(uss_reply, process) == 12, "places");
+    puts("layouts");
+}
+
+int main(void)
+{
+    layouts();
+    known_telegrams();
+    short_buffers();
+    lying_lengths();
+    empty_slices();
+    if (!failed)
+        puts("all as expected");
+    return failed;
+}

@@ -1,0 +1,80 @@
+#!/usr/bin/env bash
+# Builds the library for C and runs everything that stands outside the proofs: the archive's symbols, the C test, the header
+# under C++, the examples and the demo against their stored output, and the comparison with a second implementation on some
+# millions of calls. Prints a line for each; exits 1 where one fails. Nothing is fetched.
+#     tests/run.sh [SEED [ROUNDS]]      of the comparison
+set -euo pipefail
+cd "$(dirname "$(readlink -f "${BASH_SOURCE[0]}")")/.."
+archive=target/staticlib/libuss_c.a
+out=target/host
+mkdir -p "$out"
+strict=(-Wall -Wextra -Werror -pedantic -Iinclude)
+failed=0
+
+# try NAME COMMAND..: runs it and says how it went
+try() {
+    local name="$1" start="$SECONDS"
+    shift
+    if "$@"; then
+        echo "passed: $name ($((SECONDS - start)) s)"
+    else
+        echo "FAILED: $name"
+        failed=1
+    fi
+}
+
+# same PROGRAM FILE: what the program prints is what the file has
+same() {
+    "$1" > "$out/printed" && diff "$2" "$out/printed"
+}
+
+# the archive needs nothing from outside and offers the seven calls
+symbols() {
+    local undefined offered
+    undefined="$(nm "$archive" | grep -w 'U' || true)"
+    offered="$(nm "$archive" | awk '$2 == "T" { print $3 }' | sort | tr '\n' ' ')"
+    if [ -n "$undefined" ]; then
+        echo "undefined: $undefined"
+        return 1
+    fi
+    [ "$offered" = "uss_bcc uss_build_broadcast uss_build_mirror uss_build_task uss_list uss_read_reply uss_slave " ]
+}
+
+c_test() {
+    gcc -std=c99 "${strict[@]}" -o "$out/calls" tests/c/calls.c "$archive" && "$out/calls"
+}
+
+header_in_cpp() {
+    printf '#include "uss.h"\nint main() { return uss_bcc(nullptr, 0); }\n' > "$out/header.cpp"
+    g++ -std=c++11 "${strict[@]}" -o "$out/header" "$out/header.cpp" "$archive" && "$out/header"
+}
+
+# example NAME
+example() {
+    gcc -std=c99 "${strict[@]}" -o "$out/$1" "examples/$1.c" "$archive" && same "$out/$1" "examples/expected/$1.txt"
+}
+
+rust_example() {
+    rustc --edition 2021 -O -D warnings -L native=target/staticlib -o "$out/rust_host" examples/host.rs \
+        && same "$out/rust_host" examples/expected/host.txt
+}
+
+demo() {
+    gcc -std=c99 "${strict[@]}" -o "$out/bus" demo/bus.c "$archive" && same demo/run demo/expected.txt
+}
+
+comparison() {
+    rustc --edition 2021 -O -D warnings -L native=target/staticlib -o "$out/host" tests/host/main.rs && "$out/host" "$@"
+}
+
+rt staticlib uss_c > "$out/staticlib.txt" 2>&1 || { cat "$out/staticlib.txt"; echo "FAILED: rt staticlib uss_c"; exit 1; }
+echo "built: $archive"
+try 'symbols of the archive' symbols
+try 'C test' c_test
+try 'header under C++' header_in_cpp
+try 'example slave_host.c' example slave_host
+try 'example master_host.c' example master_host
+try 'example host.rs' rust_example
+try 'demo' demo
+try 'comparison with a second implementation' comparison "$@"
+exit "$failed"
