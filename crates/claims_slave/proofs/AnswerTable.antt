@@ -2,17 +2,19 @@
 --     answer-table      the number is that of the first line that holds, and 0, 1 or 2 where none does
 --     answer-exactly    a number is given exactly when its line holds and no earlier one does
 --     exactly-answer    and the number so told is the answer's
+--     beyond-frame      with an opening check and a frame check that pass, the number is none of 10 to 14
 --     top-bit           bit 7 of a byte, as it is tested here
 use Prim.Native.Nat.{ℕ, _+_, _-_, _*_, _/_, _%_, _<_}
 use mathlib.Core.Path.{_≡_, refl, sym, ap, subst, _∙_}
+use mathlib.Core.Logic.{inl, inr}
 use mathlib.Core.Bool.{Bool, true, false, not, _&&_, _||_, cond}
 use mathlib.Core.List.{List, [], _∷_}
 use native.Mathlib.Omega.{arith}
 use borrow.Author.Tests.{leb-true, leb-false, eq-eqb, ne-eqb}
-use lib.Dec.{leb, eqb}
+use lib.Dec.{leb, eqb, lit<}
 use lib.ListN.{length}
 use Rattle.rows.specs.Rows.{firstOf}
-use Rattle.rows.proofs.RowsLaws.{Chosen, first-chosen, chosen-first}
+use Rattle.rows.proofs.RowsLaws.{first-all, Chosen, first-chosen, chosen-first}
 use Rattle.words.specs.Words.{byteAt}
 use Rattle.words.specs.declared.Words.{Words}
 use Rattle.setup.specs.declared.Setup.{Setup}
@@ -24,6 +26,8 @@ use Rattle.frame.specs.declared.Address.the-variants.{ToOne}
 use Rattle.frame.specs.declared.FrameCheck.{FrameCheck}
 use Rattle.frame.specs.declared.FrameCheck.the-variants.{Sound}
 use Rattle.frame.specs.declared.Decoded.{Decoded}
+use Rattle.frame.proofs.FrameLaws.{Framed}
+use Rattle.frame.proofs.DecodedLaws.{framed-decoded}
 use Rattle.opening.specs.Answers.{openingRows, openingOf}
 use Rattle.opening.specs.declared.Opening.{Opening}
 use Rattle.opening.specs.declared.Opening.the-variants.{Passed}
@@ -33,6 +37,8 @@ use Rattle.slave.specs.declared.Answer.the-variants.{Mirrored, Taken}
 use Rattle.slave.specs.declared.Refusal.the-variants.{OtherNode, OtherLength, VoidBroadcast}
 use Rattle.slave.specs.declared.Served.{Served}
 use Rattle.slave.specs.Slave.{Outcome, Sent, answerNumber, refusedServed, refusedOf, written, firstWord, commandAt, normalOutcome, normalCase, mirrorCase, broadcastCase, executeDecoded, executeOf, callOpened, callOf}
+use Rattle.slave.proofs.CaseLaws.{executed, called}
+use Rattle.claims_slave.specs.Outcomes.{NotFrame, PastFrame}
 use Rattle.claims_slave.specs.AnswerTable.{broadcastBit, mirrorBit, topBit, answerRows, acceptedNumber}
 
 -- a table of tests with its answers read as k reads them
@@ -164,6 +170,35 @@ module _ (s : Setup) (t vs : List ℕ) (control status : Words) (rx out : List �
   pub exactly-answer : (n : ℕ) → Chosen (answerRows s t vs (length out) rx) (acceptedNumber rx) n
       → answerNumber (callOf s t vs control status rx out .served .answer) ≡ n
   exactly-answer n c = answer-table ∙ sym (chosen-first (answerRows s t vs (length out) rx) (acceptedNumber rx) n c)
+
+-- ---- past the frame check
+
+line-beyond : (h b m node long void : Bool) → NotFrame (byLine h b m node long void)
+line-beyond h b m node long void =
+    first-all NotFrame
+    ((h || b && m, 15) ∷ (not b && not node, 16) ∷ (not m && not long, 17) ∷ (b && void, 18) ∷ [])
+    (cond b 2 (cond m 1 0))
+    (inr (lit< tt), (inr (lit< tt), (inr (lit< tt), (inr (lit< tt), tt))))
+    (taken b m)
+  where
+    taken : (b m : Bool) → NotFrame (cond b 2 (cond m 1 0))
+    taken true m = inl (lit< tt)
+    taken false true = inl (lit< tt)
+    taken false false = inl (lit< tt)
+
+module _ (s : Setup) (t vs : List ℕ) (control status : Words) (rx out : List ℕ) where
+  pub beyond-frame : openingOf s t vs (length out) ≡ Passed → Framed rx → PastFrame (callOf s t vs control status rx out)
+  beyond-frame p f =
+      let o = called s t vs control status rx out Passed p
+      ∙ executed s t vs control status rx out (kindOf (addressOf (byteAt rx 2)) (lastOf rx)) (framed-decoded rx f) in
+      let h = topBit rx in
+      let b = broadcastBit rx in
+      let m = mirrorBit rx in
+      let node = ownNode s t vs control status rx out in
+      let long = ownLength s t vs control status rx out in
+      let void = voided s t vs control status rx out in
+      let n = ap (λ (x : Outcome). answerNumber (x .served .answer)) o ∙ sound-number s t vs control status rx out ∙ kinds h b m node long void in
+      subst NotFrame (sym n) (line-beyond h b m node long void)
 
 -- ---- bit 7
 
