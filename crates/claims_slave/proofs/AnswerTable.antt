@@ -5,7 +5,7 @@
 --     exactly-answer    and the number so told is the answer's
 --     beyond-frame      with an opening check and a frame check that pass, the number is none of 10 to 14
 --     top-bit           bit 7 of a byte, as it is tested here
-use Prim.Native.Nat.{ℕ, _+_, _-_, _*_, _/_, _%_, _<_}
+use Prim.Native.Nat.{ℕ, _-_, _/_, _%_, _<_}
 use mathlib.Core.Path.{_≡_, refl, sym, ap, subst, _∙_}
 use mathlib.Core.Logic.{inl, inr}
 use mathlib.Core.Bool.{Bool, true, false, not, _&&_, _||_, cond}
