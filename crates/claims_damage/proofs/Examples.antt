@@ -1,11 +1,23 @@
 -- The examples of docs/DAMAGE.md: telegrams that pass, and flips that the frame check cannot see or must see. Assumes nothing.
-use mathlib.Core.Path.{_≡_, refl}
-use mathlib.Core.Bool.{Bool, true, false}
+--     sent-pass, examples-hold       the table of examples
+--     unseen-damage, unseen-flips    damage that is unseen
+--     byte-damage, byte-wrong        damage of one byte
+--     burst-damage, burst-flips      a burst of eight, lowest bit first
+--     hit-damage, first-flipped      damage that hits the first byte
+use mathlib.Core.Path.{_≡_, refl, ap}
+use mathlib.Core.Bool.{Bool, true, false, _&&_}
 use mathlib.Core.List.{List, [], _∷_, map, zipWith}
-use Prim.Native.Nat.{ℕ}
+use Prim.Native.Nat.{ℕ, zero, suc, _+_, _*_, _/_, _%_, _^_, _≤_, _<_}
+use native.Mathlib.Nat.{zero-div}
+use native.Mathlib.Omega.{arith}
+use borrow.Author.Tests.{ltb-true}
+use lib.Dec.{ltb, lit<}
+use Rattle.rows.proofs.BoolLaws.{and-left, and-right}
+use Rattle.rows.proofs.RangeLaws.{between}
+use Rattle.words.specs.Words.{byteAt, Bytes}
 use Rattle.frame.specs.Bcc.{xorAll}
 use Rattle.frame.specs.Frame.{frameOf, isSound}
-use Rattle.claims_damage.specs.Damage.{damaged}
+use Rattle.claims_damage.specs.Damage.{damaged, Damage, bit, flips, Unseen, Hit, OneByte, Order, Burst}
 
 -- the smallest telegrams: one net byte, two net bytes
 abbrev pub one : List ℕ
@@ -51,3 +63,109 @@ sent-pass = refl
 pub examples-hold : map (λ (x : List ℕ × List ℕ × Bool). isSound (frameOf (damaged (x .0) (x .1)))) examples ≡ map (λ (x : List ℕ × List ℕ × Bool). x .2) examples
 unfolding frameOf xorAll zipWith
 examples-hold = refl
+
+-- ---- there is damage of each kind: values of the records that the theorems take
+
+allBytes : List ℕ → Bool
+allBytes [] = true
+allBytes (x ∷ xs) = ltb x 256 && allBytes xs
+
+-- a list whose elements are all below 256 has bytes at all places, zeros past its end
+bytes-of : (f : List ℕ) → allBytes f ≡ true → Bytes f
+unfolding allBytes
+bytes-of [] e i = lit< tt
+bytes-of (x ∷ xs) e zero = ltb-true x 256 (and-left (ltb x 256) (allBytes xs) e)
+bytes-of (x ∷ xs) e (suc i) = bytes-of xs (and-right (ltb x 256) (allBytes xs) e) i
+
+-- two bits in one position: of a net byte and of BCC
+abbrev pub twice : List ℕ
+twice = 0x00 ∷ 0x00 ∷ 0x00 ∷ 0x01 ∷ 0x01 ∷ []
+
+pub unseen-damage : Damage one twice
+unfolding frameOf xorAll allBytes
+unseen-damage = record { passes = refl; bytes = bytes-of twice refl; same = refl }
+
+pub unseen-flips : Unseen twice
+unfolding flips
+unseen-flips = record {
+  first = refl;
+  second = refl;
+  even = λ k h. between (λ k. flips k twice % 2 ≡ 0) 8 0 (refl, (refl, (refl, (refl, (refl, (refl, (refl, (refl, tt)))))))) k (omega arith) (omega arith);
+}
+
+-- one byte
+abbrev pub wrongByte : List ℕ
+wrongByte = 0x00 ∷ 0x00 ∷ 0x00 ∷ 0xFF ∷ 0x00 ∷ []
+
+pub byte-damage : Damage one wrongByte
+unfolding frameOf xorAll allBytes
+byte-damage = record { passes = refl; bytes = bytes-of wrongByte refl; same = refl }
+
+pub byte-wrong : OneByte wrongByte 3
+byte-wrong = record { wrong = lit< tt; rest = rest }
+  where
+    rest : (j : ℕ) → (j ≡ 3 → ⊥) → byteAt wrongByte j ≡ 0
+    rest zero ne = refl
+    rest (suc zero) ne = refl
+    rest (suc (suc zero)) ne = refl
+    rest (suc (suc (suc zero))) ne = absurd (ne refl)
+    rest (suc (suc (suc (suc zero)))) ne = refl
+    rest (suc (suc (suc (suc (suc j))))) ne = refl
+
+-- a burst of eight: the last four data bits of a byte and the first four of the next
+abbrev pub eightBits : List ℕ
+eightBits = 0x00 ∷ 0x00 ∷ 0x00 ∷ 0xF0 ∷ 0x0F ∷ []
+
+-- lowest bit first, as a UART sends them
+abbrev pub lowestFirst : ℕ → ℕ
+lowestFirst k = k
+
+pub lowest-order : Order lowestFirst
+lowest-order k h = h
+
+pub burst-damage : Damage one eightBits
+unfolding frameOf xorAll allBytes
+burst-damage = record { passes = refl; bytes = bytes-of eightBits refl; same = refl }
+
+no-bit : (k : ℕ) → bit k 0 ≡ 1 → ⊥
+no-bit k e = omega (arith, ap (λ (x : ℕ). x % 2) (zero-div (2 ^ k)))
+
+high-four : (k : ℕ) → k < 8 → bit k 0xF0 ≡ 1 → 4 ≤ k
+high-four k h =
+    between (λ k. bit k 0xF0 ≡ 1 → 4 ≤ k) 8 0
+    (λ e. omega arith, (λ e. omega arith, (λ e. omega arith, (λ e. omega arith, (λ e. omega arith, (λ e. omega arith, (λ e. omega arith, (λ e. omega arith, tt))))))))
+    k (omega arith) (omega arith)
+
+low-four : (k : ℕ) → k < 8 → bit k 0x0F ≡ 1 → k < 4
+low-four k h =
+    between (λ k. bit k 0x0F ≡ 1 → k < 4) 8 0
+    (λ e. omega arith, (λ e. omega arith, (λ e. omega arith, (λ e. omega arith, (λ e. omega arith, (λ e. omega arith, (λ e. omega arith, (λ e. omega arith, tt))))))))
+    k (omega arith) (omega arith)
+
+within : (j k : ℕ) → k < 8 → bit k (byteAt eightBits j) ≡ 1 → (28 ≤ j * 8 + k) × (j * 8 + k < 36)
+within zero k h e = absurd (no-bit k e)
+within (suc zero) k h e = absurd (no-bit k e)
+within (suc (suc zero)) k h e = absurd (no-bit k e)
+within (suc (suc (suc zero))) k h e = let l = high-four k h e in (omega arith, omega arith)
+within (suc (suc (suc (suc zero)))) k h e = let l = low-four k h e in (omega arith, omega arith)
+within (suc (suc (suc (suc (suc j))))) k h e = absurd (no-bit k e)
+
+pub burst-flips : Burst lowestFirst eightBits 28
+burst-flips = record {
+  place = 28;
+  flip = refl;
+  inside = λ q e.
+      let w = within (q / 8) (q % 8) (omega arith) e in
+      (omega (arith, w .0), omega (arith, w .1));
+}
+
+-- the first byte with a flip that mends the check byte
+abbrev pub firstByte : List ℕ
+firstByte = 0x01 ∷ 0x00 ∷ 0x00 ∷ 0x00 ∷ 0x01 ∷ []
+
+pub hit-damage : Damage one firstByte
+unfolding frameOf xorAll allBytes
+hit-damage = record { passes = refl; bytes = bytes-of firstByte refl; same = refl }
+
+pub first-flipped : Hit firstByte 0
+first-flipped = lit< tt

@@ -2,6 +2,7 @@
 pub mod Cases
 pub mod Kept
 pub mod Answered
+pub mod AnswerTable
 pub mod Sequences
 pub mod Damaged
 pub mod Known

@@ -9,8 +9,10 @@
 --     GrantedChange s t rx j         rx asks for a change of a value of record j, and no error applies
 --     placeIn s t rx j, valueIn s rx the place that it means, and the value that it carries
 --     FrameRefused o control vs out  refused with 10 to 14, and untouched
-use Prim.Native.Nat.{ℕ, _+_, _/_, _%_, _≤_}
+--     PastFrame o                    the answer's number is none of 10 to 14 (NotFrame)
+use Prim.Native.Nat.{ℕ, _+_, _/_, _%_, _≤_, _<_}
 use mathlib.Core.Path.{_≡_}
+use mathlib.Core.Logic.{_⊎_}
 use mathlib.Core.Bool.{Bool, true, false}
 use mathlib.Core.List.{List}
 use lib.ListN.{length, take, drop}
@@ -76,6 +78,12 @@ pub record FrameRefused (o : Outcome) (control : Words) (vs out : List ℕ) : Ty
   pub least : 10 ≤ answerNumber (o .served .answer)
   pub most : answerNumber (o .served .answer) ≤ 14
   pub untouched : Untouched o control vs out
+
+abbrev pub NotFrame : ℕ → Type 0
+NotFrame n = (n < 10) ⊎ (14 < n)
+
+abbrev pub PastFrame : Outcome → Type 0
+PastFrame o = NotFrame (answerNumber (o .served .answer))
 
 -- ---- a change that is made
 

@@ -1,0 +1,247 @@
+-- The answer of a slave call is that of document 01's table, for every input. Assumes nothing.
+--     lines-known       the table's numbers at known telegrams
+--     answer-table      the number is that of the first line that holds, and 0, 1 or 2 where none does
+--     answer-exactly    a number is given exactly when its line holds and no earlier one does
+--     exactly-answer    and the number so told is the answer's
+--     beyond-frame      with an opening check and a frame check that pass, the number is none of 10 to 14
+--     top-bit           bit 7 of a byte, as it is tested here
+use Prim.Native.Nat.{ℕ, _-_, _/_, _%_, _<_}
+use mathlib.Core.Path.{_≡_, refl, sym, ap, subst, _∙_}
+use mathlib.Core.Logic.{inl, inr}
+use mathlib.Core.Bool.{Bool, true, false, not, _&&_, _||_, cond}
+use mathlib.Core.List.{List, [], _∷_, map}
+use native.Mathlib.Omega.{arith}
+use borrow.Author.Tests.{leb-true, leb-false, eq-eqb, ne-eqb}
+use lib.Dec.{leb, eqb, lit<}
+use lib.ListN.{length}
+use Rattle.rows.specs.Rows.{firstOf}
+use Rattle.rows.proofs.RowsLaws.{first-all, Chosen, first-chosen, chosen-first}
+use Rattle.words.specs.Words.{byteAt}
+use Rattle.words.specs.declared.Words.{Words}
+use Rattle.setup.specs.declared.Setup.{Setup}
+use Rattle.setup.specs.SetupRules.{setupOk, netBytes}
+use Rattle.table.specs.Records.{entriesFrom, entries, countsOf}
+use Rattle.frame.specs.Bcc.{xorAll}
+use Rattle.frame.specs.Frame.{lastOf, frameRows, frameOf}
+use Rattle.frame.specs.Address.{addressRows, addressOf, kindOf, decodedFrom}
+use Rattle.frame.specs.declared.Address.{Address}
+use Rattle.frame.specs.declared.Address.the-variants.{ToOne}
+use Rattle.frame.specs.declared.FrameCheck.{FrameCheck}
+use Rattle.frame.specs.declared.FrameCheck.the-variants.{Sound}
+use Rattle.frame.specs.declared.Decoded.{Decoded}
+use Rattle.frame.proofs.FrameLaws.{Framed}
+use Rattle.frame.proofs.DecodedLaws.{framed-decoded}
+use Rattle.opening.specs.Rules.{risingFrom, eachOk, runsOk}
+use Rattle.opening.specs.Answers.{openingRows, openingOf}
+use Rattle.opening.specs.declared.Opening.{Opening}
+use Rattle.opening.specs.declared.Opening.the-variants.{Passed}
+use Rattle.net.specs.Read.{processAt}
+use Rattle.broadcast.specs.Broadcast.{isVoid, controlAfter}
+use Rattle.slave.specs.declared.Answer.the-variants.{Mirrored, Taken}
+use Rattle.slave.specs.declared.Refusal.the-variants.{OtherNode, OtherLength, VoidBroadcast}
+use Rattle.slave.specs.declared.Served.{Served}
+use Rattle.slave.specs.Slave.{Outcome, Sent, answerNumber, refusedServed, refusedOf, written, firstWord, commandAt, normalOutcome, normalCase, mirrorCase, broadcastCase, executeDecoded, executeOf, callOpened, callOf}
+use Rattle.slave.proofs.CaseLaws.{executed, called}
+use Rattle.claims_slave.specs.Outcomes.{NotFrame, PastFrame}
+use Rattle.claims_slave.specs.AnswerTable.{broadcastBit, mirrorBit, topBit, answerRows, acceptedNumber}
+
+-- a table of tests with its answers read as k reads them
+abbrev readRows : {A : Type 0} → (A → ℕ) → List (Bool × A) → List (Bool × ℕ)
+readRows k [] = []
+readRows k (row ∷ rows) = (row .0, k (row .1)) ∷ readRows k rows
+
+first-read : {A : Type 0} (k : A → ℕ) (rows : List (Bool × A)) (other : A) → k (firstOf rows other) ≡ firstOf (readRows k rows) (k other)
+first-read k [] other = refl
+first-read k (row ∷ rows) other = go (row .0) (first-read k rows other)
+  where
+    go : (b : Bool) → k (firstOf rows other) ≡ firstOf (readRows k rows) (k other)
+        → k (cond b (row .1) (firstOf rows other)) ≡ cond b (k (row .1)) (firstOf (readRows k rows) (k other))
+    go true e = refl
+    go false e = e
+
+-- ---- the table at known telegrams: node 3, no parameter area, one process word
+
+abbrev pub small : Setup
+small = record { node = 3; pkw = 0; pzd = 1 }
+
+abbrev pub lines : List (List ℕ × ℕ)
+lines =
+    (0x02 ∷ 0x02 ∷ 0x03 ∷ 0x03 ∷ [], 10)
+    ∷ (0x03 ∷ 0x02 ∷ 0x03 ∷ 0x15 ∷ 0x17 ∷ [], 11)
+    ∷ (0x02 ∷ 0x02 ∷ 0x03 ∷ 0x15 ∷ 0x17 ∷ [], 12)
+    ∷ (0x02 ∷ 0x04 ∷ 0x03 ∷ 0x15 ∷ 0x17 ∷ [], 13)
+    ∷ (0x02 ∷ 0x03 ∷ 0x83 ∷ 0x15 ∷ 0x17 ∷ [], 14)
+    -- bit 7; bits 5 and 6 together
+    ∷ (0x02 ∷ 0x03 ∷ 0x80 ∷ 0x15 ∷ 0x94 ∷ [], 15)
+    ∷ (0x02 ∷ 0x03 ∷ 0x60 ∷ 0x15 ∷ 0x74 ∷ [], 15)
+    -- other node and other length; a mirror to another node
+    ∷ (0x02 ∷ 0x03 ∷ 0x04 ∷ 0x15 ∷ 0x10 ∷ [], 16)
+    ∷ (0x02 ∷ 0x03 ∷ 0x44 ∷ 0x15 ∷ 0x50 ∷ [], 16)
+    -- other length; a broadcast of another length
+    ∷ (0x02 ∷ 0x03 ∷ 0x03 ∷ 0x15 ∷ 0x17 ∷ [], 17)
+    ∷ (0x02 ∷ 0x03 ∷ 0x20 ∷ 0x15 ∷ 0x34 ∷ [], 17)
+    -- a broadcast without a parameter area
+    ∷ (0x02 ∷ 0x04 ∷ 0x20 ∷ 0x00 ∷ 0x00 ∷ 0x26 ∷ [], 18)
+    -- a task; a mirror of another length
+    ∷ (0x02 ∷ 0x04 ∷ 0x03 ∷ 0x04 ∷ 0x7F ∷ 0x7E ∷ [], 0)
+    ∷ (0x02 ∷ 0x03 ∷ 0x43 ∷ 0x15 ∷ 0x57 ∷ [], 1)
+    ∷ []
+
+pub lines-known : map (λ (x : List ℕ × ℕ). firstOf (answerRows small [] [] 256 (x .0)) (acceptedNumber (x .0))) lines
+    ≡ map (λ (x : List ℕ × ℕ). x .1) lines
+unfolding setupOk entriesFrom entries countsOf risingFrom eachOk runsOk xorAll isVoid
+lines-known = refl
+
+-- ---- the kinds
+
+-- 15 to 18 as the call tests them by kind, and as the table has them: top bit, broadcast, mirror, own node, own length, void
+abbrev byKind : Bool → Bool → Bool → Bool → Bool → Bool → ℕ
+byKind h b m node long void =
+    firstOf ((h, 15) ∷ (b && m, 15) ∷ (b, firstOf ((not long, 17) ∷ (void, 18) ∷ []) 2) ∷ (m, firstOf ((not node, 16) ∷ []) 1) ∷ [])
+    (firstOf ((not node, 16) ∷ (not long, 17) ∷ []) 0)
+
+abbrev byLine : Bool → Bool → Bool → Bool → Bool → Bool → ℕ
+byLine h b m node long void =
+    firstOf ((h || b && m, 15) ∷ (not b && not node, 16) ∷ (not m && not long, 17) ∷ (b && void, 18) ∷ []) (cond b 2 (cond m 1 0))
+
+kinds : (h b m node long void : Bool) → byKind h b m node long void ≡ byLine h b m node long void
+kinds true b m node long void = refl
+kinds false true true node long void = refl
+kinds false true false node true true = refl
+kinds false true false node true false = refl
+kinds false true false node false void = refl
+kinds false false true true long void = refl
+kinds false false true false long void = refl
+kinds false false false true true void = refl
+kinds false false false true false void = refl
+kinds false false false false long void = refl
+
+module _ (s : Setup) (t vs : List ℕ) (control status : Words) (rx out : List ℕ) where
+  abbrev numberOf : Outcome → ℕ
+  numberOf o = answerNumber (o .served .answer)
+
+  abbrev ownNode : Bool
+  ownNode = eqb (byteAt rx 2 % 32) (s .node)
+
+  abbrev ownLength : Bool
+  ownLength = eqb (length rx - 4) (netBytes s)
+
+  abbrev voided : Bool
+  voided = isVoid (commandAt rx (s .pkw)) (s .pkw) (s .pzd) (firstWord s rx)
+
+  normal-number : (node n : ℕ) → numberOf (normalCase node n s t vs control status rx out)
+      ≡ firstOf ((not (eqb node (s .node)), 16) ∷ (not (eqb n (netBytes s)), 17) ∷ []) 0
+  unfolding normalCase
+  normal-number node n =
+      first-read numberOf
+      ((not (eqb node (s .node)), refusedOf OtherNode control vs out)
+      ∷ (not (eqb n (netBytes s)), refusedOf OtherLength control vs out)
+      ∷ [])
+      (normalOutcome s t vs control status rx out)
+
+  mirror-number : (node : ℕ) → answerNumber (mirrorCase node s control rx out .served .answer)
+      ≡ firstOf ((not (eqb node (s .node)), 16) ∷ []) 1
+  unfolding mirrorCase
+  mirror-number node =
+      first-read (λ (x : Sent). answerNumber (x .served .answer))
+      ((not (eqb node (s .node)), record { served = refusedServed OtherNode control; reply = out }) ∷ [])
+      (record { served = record { answer = Mirrored; length = length rx; control = control }; reply = written out rx })
+
+  broadcast-number : answerNumber (broadcastCase (length rx - 4) s control rx .answer)
+      ≡ firstOf ((not ownLength, 17) ∷ (voided, 18) ∷ []) 2
+  unfolding broadcastCase
+  broadcast-number =
+      first-read (λ (x : Served). answerNumber (x .answer))
+      ((not ownLength, refusedServed OtherLength control) ∷ (voided, refusedServed VoidBroadcast control) ∷ [])
+      (record { answer = Taken; length = 0; control = controlAfter (commandAt rx (s .pkw)) control (processAt rx (s .pkw) (s .pzd) control) })
+
+  -- ---- the address byte
+
+  abbrev ofDecoded : Decoded → ℕ
+  ofDecoded d = numberOf (executeDecoded d s t vs control status rx out)
+
+  sound-number : ofDecoded (kindOf (addressOf (byteAt rx 2)) (lastOf rx))
+      ≡ byKind (topBit rx) (broadcastBit rx) (mirrorBit rx) ownNode ownLength voided
+  unfolding addressOf
+  sound-number =
+      let net : lastOf rx - 3 ≡ length rx - 4 = omega arith in
+      let normal = normal-number (byteAt rx 2 % 32) (lastOf rx - 3) in
+      first-read (λ (a : Address). ofDecoded (kindOf a (lastOf rx))) (addressRows (byteAt rx 2)) (ToOne (byteAt rx 2 % 32))
+      ∙ rw (normal, mirror-number (byteAt rx 2 % 32), broadcast-number, net)
+
+  -- ---- the frame check
+
+  abbrev frameNumbers : List (Bool × ℕ)
+  frameNumbers = readRows (λ (r : FrameCheck). ofDecoded (decodedFrom r (byteAt rx 2))) (frameRows rx)
+
+  frame-number : numberOf (executeOf s t vs control status rx out)
+      ≡ firstOf frameNumbers (byKind (topBit rx) (broadcastBit rx) (mirrorBit rx) ownNode ownLength voided)
+  unfolding executeOf frameOf
+  frame-number =
+      first-read (λ (r : FrameCheck). ofDecoded (decodedFrom r (byteAt rx 2))) (frameRows rx) (Sound (lastOf rx))
+      ∙ ap (λ (n : ℕ). firstOf frameNumbers n) sound-number
+
+  -- ---- the opening check, and the whole
+
+  abbrev ofOpening : Opening → ℕ
+  ofOpening o = numberOf (callOpened o s t vs control status rx out)
+
+  abbrev openingNumbers : List (Bool × ℕ)
+  openingNumbers = readRows ofOpening (openingRows s t vs (length out))
+
+  call-number : numberOf (callOf s t vs control status rx out) ≡ firstOf openingNumbers (numberOf (executeOf s t vs control status rx out))
+  unfolding callOf openingOf
+  call-number = first-read ofOpening (openingRows s t vs (length out)) Passed
+
+  pub answer-table : answerNumber (callOf s t vs control status rx out .served .answer)
+      ≡ firstOf (answerRows s t vs (length out) rx) (acceptedNumber rx)
+  answer-table =
+      call-number ∙ ap (λ (n : ℕ). firstOf openingNumbers n) frame-number
+      ∙ ap (λ (n : ℕ). firstOf openingNumbers (firstOf frameNumbers n)) (kinds (topBit rx) (broadcastBit rx) (mirrorBit rx) ownNode ownLength voided)
+
+  pub answer-exactly : Chosen (answerRows s t vs (length out) rx) (acceptedNumber rx) (answerNumber (callOf s t vs control status rx out .served .answer))
+  answer-exactly =
+      subst (λ (n : ℕ). Chosen (answerRows s t vs (length out) rx) (acceptedNumber rx) n) (sym answer-table)
+      (first-chosen (answerRows s t vs (length out) rx) (acceptedNumber rx))
+
+  pub exactly-answer : (n : ℕ) → Chosen (answerRows s t vs (length out) rx) (acceptedNumber rx) n
+      → answerNumber (callOf s t vs control status rx out .served .answer) ≡ n
+  exactly-answer n c = answer-table ∙ sym (chosen-first (answerRows s t vs (length out) rx) (acceptedNumber rx) n c)
+
+-- ---- past the frame check
+
+line-beyond : (h b m node long void : Bool) → NotFrame (byLine h b m node long void)
+line-beyond h b m node long void =
+    first-all NotFrame
+    ((h || b && m, 15) ∷ (not b && not node, 16) ∷ (not m && not long, 17) ∷ (b && void, 18) ∷ [])
+    (cond b 2 (cond m 1 0))
+    (inr (lit< tt), (inr (lit< tt), (inr (lit< tt), (inr (lit< tt), tt))))
+    (taken b m)
+  where
+    taken : (b m : Bool) → NotFrame (cond b 2 (cond m 1 0))
+    taken true m = inl (lit< tt)
+    taken false true = inl (lit< tt)
+    taken false false = inl (lit< tt)
+
+module _ (s : Setup) (t vs : List ℕ) (control status : Words) (rx out : List ℕ) where
+  pub beyond-frame : openingOf s t vs (length out) ≡ Passed → Framed rx → PastFrame (callOf s t vs control status rx out)
+  beyond-frame p f =
+      let o = called s t vs control status rx out Passed p
+      ∙ executed s t vs control status rx out (kindOf (addressOf (byteAt rx 2)) (lastOf rx)) (framed-decoded rx f) in
+      let h = topBit rx in
+      let b = broadcastBit rx in
+      let m = mirrorBit rx in
+      let node = ownNode s t vs control status rx out in
+      let long = ownLength s t vs control status rx out in
+      let void = voided s t vs control status rx out in
+      let n = ap (λ (x : Outcome). answerNumber (x .served .answer)) o ∙ sound-number s t vs control status rx out ∙ kinds h b m node long void in
+      subst NotFrame (sym n) (line-beyond h b m node long void)
+
+-- ---- bit 7
+
+pub top-bit : (x : ℕ) → x < 256 → leb 128 x ≡ eqb (x / 128 % 2) 1
+top-bit x h = go (leb 128 x) refl
+  where
+    go : (b : Bool) → leb 128 x ≡ b → leb 128 x ≡ eqb (x / 128 % 2) 1
+    go true e = let l = leb-true 128 x e in e ∙ sym (eq-eqb (x / 128 % 2) 1 (omega arith))
+    go false e = let l = leb-false 128 x e in e ∙ sym (ne-eqb (x / 128 % 2) 1 (λ q. omega arith))

@@ -1,0 +1,59 @@
+-- Document 01's table of answer numbers, line by line and in its order, over the inputs of a slave call.
+--     broadcastBit rx, mirrorBit rx    bits 5 and 6 of the address byte
+--     answerRows s t vs room rx        the lines 20 to 23 and 10 to 18: test and number
+--     acceptedNumber rx                0, 1, 2 where none of them holds: replied, mirrored, broadcast taken
+use Prim.Native.Nat.{ℕ, _+_, _-_, _*_, _/_, _%_}
+use mathlib.Core.Bool.{Bool, not, _&&_, _||_, cond}
+use mathlib.Core.List.{List, [], _∷_}
+use lib.Dec.{ltb, leb, eqb}
+use lib.ListN.{length, take}
+use Rattle.words.specs.Words.{byteAt}
+use Rattle.setup.specs.declared.Setup.{Setup}
+use Rattle.setup.specs.SetupRules.{setupOk}
+use Rattle.frame.specs.Bcc.{xorAll}
+use Rattle.opening.specs.Rules.{tableOk, valuesOk}
+use Rattle.broadcast.specs.Broadcast.{isVoid}
+use Rattle.slave.specs.Slave.{firstWord, commandAt}
+
+abbrev pub broadcastBit : List ℕ → Bool
+broadcastBit rx = eqb (byteAt rx 2 / 32 % 2) 1
+
+abbrev pub mirrorBit : List ℕ → Bool
+mirrorBit rx = eqb (byteAt rx 2 / 64 % 2) 1
+
+-- bit 7 of a byte: it is 128 or more
+abbrev pub topBit : List ℕ → Bool
+topBit rx = leb 128 (byteAt rx 2)
+
+abbrev pub answerRows : Setup → List ℕ → List ℕ → ℕ → List ℕ → List (Bool × ℕ)
+answerRows s t vs room rx =
+    -- node over 31, PKW not 0, 3, 4, PZD over 4, or both 0
+    (not (setupOk s), 20)
+    -- table breaks a rule
+    ∷ (not (tableOk t), 21)
+    -- value count wrong, or a value outside its limits
+    ∷ (not (valuesOk t vs), 22)
+    -- reply buffer under 256 bytes
+    ∷ (ltb room 256, 23)
+    -- fewer than 5 bytes received
+    ∷ (ltb (length rx) 5, 10)
+    -- first byte not 02
+    ∷ (not (eqb (byteAt rx 0) 2), 11)
+    -- LGE not 3 to 254
+    ∷ (ltb (byteAt rx 1) 3 || ltb 254 (byteAt rx 1), 12)
+    -- byte count not LGE + 2
+    ∷ (not (eqb (length rx) (byteAt rx 1 + 2)), 13)
+    -- BCC wrong: the last byte is not the XOR of all before it
+    ∷ (not (eqb (byteAt rx (length rx - 1)) (xorAll (take (length rx - 1) rx))), 14)
+    -- bit 7, or bits 5 and 6 together
+    ∷ (topBit rx || broadcastBit rx && mirrorBit rx, 15)
+    -- not broadcast, other node
+    ∷ (not (broadcastBit rx) && not (eqb (byteAt rx 2 % 32) (s .node)), 16)
+    -- not mirror, n not 2 × (PKW + PZD): n is all but 02, LGE, ADR, BCC
+    ∷ (not (mirrorBit rx) && not (eqb (length rx - 4) ((s .pkw + s .pzd) * 2)), 17)
+    -- void broadcast
+    ∷ (broadcastBit rx && isVoid (commandAt rx (s .pkw)) (s .pkw) (s .pzd) (firstWord s rx), 18)
+    ∷ []
+
+abbrev pub acceptedNumber : List ℕ → ℕ
+acceptedNumber rx = cond (broadcastBit rx) 2 (cond (mirrorBit rx) 1 0)
