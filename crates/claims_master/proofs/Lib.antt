@@ -8,3 +8,4 @@ pub mod ReplyLaws
 pub mod AnswerLaws
 pub mod ReplyIsRead
 pub mod RoundTrip
+pub mod KnownRound
