@@ -20,11 +20,11 @@ use Rattle.frame.specs.declared.Address.{Address}
 use Rattle.frame.specs.declared.Decoded.the-variants.{Broadcast as BroadcastTelegram}
 use Rattle.net.specs.declared.Area.{Area}
 use Rattle.net.specs.Net.{netOf}
-use Rattle.net.specs.Read.{processAt}
+use Rattle.net.specs.Read.{processAt, Worded, firstWords}
 use Rattle.net.specs.Telegram.{telegramOf}
 use Rattle.net.proofs.NetLaws.{area-all}
 use Rattle.net.proofs.SealLaws.{length-telegram}
-use Rattle.net.proofs.ReadLaws.{Headed, Worded, firstWords, area-word, process-word, process-back}
+use Rattle.net.proofs.ReadLaws.{Headed, area-word, process-word, process-back}
 use Rattle.broadcast.specs.declared.Command.{Command}
 use Rattle.broadcast.specs.Broadcast.{selectsFirst, isVoid, controlAfter}
 use Rattle.request.specs.declared.Request.the-variants.{Broadcast}

@@ -5,6 +5,8 @@ pub mod TaskIsRead
 pub mod MirrorIsRead
 pub mod BroadcastIsRead
 pub mod ReplyLaws
+pub mod SuitLaws
 pub mod AnswerLaws
 pub mod ReplyIsRead
 pub mod RoundTrip
+pub mod KnownRound

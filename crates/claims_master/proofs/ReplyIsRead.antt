@@ -20,7 +20,8 @@ use Rattle.opening.proofs.AnswersLaws.{opened}
 use Rattle.net.specs.declared.Area.{Area}
 use Rattle.net.specs.Net.{netOf}
 use Rattle.net.specs.Telegram.{telegramOf}
-use Rattle.net.proofs.ReadLaws.{Headed, Worded, firstWords, process-back}
+use Rattle.net.specs.Read.{Worded, firstWords}
+use Rattle.net.proofs.ReadLaws.{Headed, process-back}
 use Rattle.task.specs.Task.{tasks, taskOf}
 use Rattle.task.proofs.PageLaws.{named-back, id-back}
 use Rattle.request.specs.declared.Request.the-variants.{Task}

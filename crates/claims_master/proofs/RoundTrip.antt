@@ -9,7 +9,7 @@ use Rattle.words.specs.declared.Words.{Words}
 use Rattle.setup.specs.declared.Setup.{Setup}
 use Rattle.opening.specs.declared.Opening.the-variants.{Passed}
 use Rattle.opening.specs.Answers.{openingOf}
-use Rattle.net.proofs.ReadLaws.{Worded}
+use Rattle.net.specs.Read.{Worded}
 use Rattle.request.specs.declared.Request.{Request}
 use Rattle.request.specs.declared.Request.the-variants.{Task}
 use Rattle.slave.specs.Slave.{taskDone, replyOf, written, callOf, normalOutcome}

@@ -16,9 +16,9 @@ use Rattle.frame.specs.Address.{decodedOf}
 use Rattle.frame.specs.declared.Decoded.the-variants.{Normal}
 use Rattle.net.specs.declared.Area.{Area}
 use Rattle.net.specs.Net.{netOf}
-use Rattle.net.specs.Read.{areaAt, processAt}
+use Rattle.net.specs.Read.{areaAt, processAt, Worded, firstWords}
 use Rattle.net.specs.Telegram.{telegramOf}
-use Rattle.net.proofs.ReadLaws.{Headed, Worded, firstWords, process-word, area-back, process-back}
+use Rattle.net.proofs.ReadLaws.{Headed, process-word, area-back, process-back}
 use Rattle.task.specs.declared.Act.{Act}
 use Rattle.task.specs.declared.Act.the-variants.{Nothing, Read, Change, Count, Refuse}
 use Rattle.task.specs.declared.Width.{Width}

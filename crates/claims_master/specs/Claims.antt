@@ -19,8 +19,7 @@ use Rattle.frame.specs.declared.Decoded.the-variants.{Normal, Mirror as MirrorT
 use Rattle.setup.specs.declared.Setup.{Setup}
 use Rattle.setup.specs.SetupRules.{netBytes}
 use Rattle.net.specs.declared.Area.{Area}
-use Rattle.net.specs.Read.{areaAt, processAt}
-use Rattle.net.proofs.ReadLaws.{firstWords}
+use Rattle.net.specs.Read.{areaAt, processAt, firstWords}
 use Rattle.task.specs.Page.{fullNumber, named}
 use Rattle.broadcast.specs.Broadcast.{isVoid, controlAfter}
 use Rattle.request.specs.declared.Request.{Request}

@@ -15,7 +15,7 @@ use Rattle.words.specs.declared.Words.{Words}
 use Rattle.net.specs.declared.Area.{Area}
 use Rattle.net.specs.Telegram.{bodyOf, telegramOf}
 use Rattle.net.specs.Net.{bytesOf, wordsOf, valueWords, areaWords, netOf}
-use Rattle.net.specs.Read.{valueAt, areaAt, wordTaken, processAt}
+use Rattle.net.specs.Read.{valueAt, areaAt, wordTaken, processAt, firstWords, Worded}
 use Rattle.net.proofs.NetLaws.{length-area, area-all}
 
 -- ---- words
@@ -69,13 +69,6 @@ pub record Headed (a : Area) : Type 0 where
   pub pke-word : a .pke < 65536
   pub ind-word : a .ind < 65536
 
--- four words
-pub record Worded (w : Words) : Type 0 where
-  pub first : w .w1 < 65536
-  pub second : w .w2 < 65536
-  pub third : w .w3 < 65536
-  pub fourth : w .w4 < 65536
-
 all-area : (n : ℕ) (a : Area) → Headed a → AllWords (areaWords n a)
 unfolding areaWords
 all-area n a h =
@@ -103,15 +96,6 @@ value-back (suc (suc zero)) v t s f h =
     let b : wordAt t 9 ≡ v % 65536 = h 1 (lit< tt) in
     omega arith
 value-back (suc (suc (suc n))) v t s f h = absurd (omega arith)
-
--- the first pzd of four words, and the rest of the old ones
-abbrev pub firstWords : ℕ → Words → Words → Words
-firstWords pzd w old = record {
-  w1 = cond (ltb 0 pzd) (w .w1) (old .w1);
-  w2 = cond (ltb 1 pzd) (w .w2) (old .w2);
-  w3 = cond (ltb 2 pzd) (w .w3) (old .w3);
-  w4 = cond (ltb 3 pzd) (w .w4) (old .w4);
-}
 
 module _ (adr : ℕ) (a : Area) (n : ℕ) (w : Words) (pzd : ℕ) where
   words-of : List ℕ

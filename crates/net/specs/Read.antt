@@ -2,7 +2,9 @@
 --     valueAt t n             the value over n words from place 7 on, high word first; a value has two words at most
 --     areaAt t n              the parameter area of n words
 --     processAt t n pzd old   the first pzd process words, behind an area of n words; the rest are the old ones
-use Prim.Native.Nat.{ℕ, zero, suc, _+_, _-_, _*_, _%_}
+--     firstWords pzd w old    the first pzd of four words; the rest are the old ones
+--     Worded w                each of the four is a word
+use Prim.Native.Nat.{ℕ, zero, suc, _+_, _-_, _*_, _%_, _<_}
 use mathlib.Core.List.{List}
 use mathlib.Core.Bool.{Bool, true, false, cond}
 use lib.Dec.{ltb}
@@ -27,3 +29,17 @@ processAt t n pzd old = record {
   w3 = wordTaken t (n * 2 + 3 + 4) (ltb 2 pzd) (old .w3);
   w4 = wordTaken t (n * 2 + 3 + 6) (ltb 3 pzd) (old .w4);
 }
+
+abbrev pub firstWords : ℕ → Words → Words → Words
+firstWords pzd w old = record {
+  w1 = cond (ltb 0 pzd) (w .w1) (old .w1);
+  w2 = cond (ltb 1 pzd) (w .w2) (old .w2);
+  w3 = cond (ltb 2 pzd) (w .w3) (old .w3);
+  w4 = cond (ltb 3 pzd) (w .w4) (old .w4);
+}
+
+pub record Worded (w : Words) : Type 0 where
+  pub first : w .w1 < 65536
+  pub second : w .w2 < 65536
+  pub third : w .w3 < 65536
+  pub fourth : w .w4 < 65536
