@@ -25,10 +25,6 @@ cond-bounds : (x m : ℕ) → 1 ≤ m → x ≤ m → (b : Bool) → eqb x 0 ≡
 cond-bounds x m o h true e = (lit≤ tt, o)
 cond-bounds x m o h false e = (omega (arith, eqb-false x 0 e), h)
 
-pub count-pos : (e : Entry) → 1 ≤ countOf e
-unfolding countOf
-count-pos e = cond-bounds (e .elements) (e .elements + 1) (omega arith) (omega arith) (eqb (e .elements) 0) refl .0
-
 -- the head's eight bits count at most 255
 pub count-le : (head lo hi : ℕ) → countOf (entryOf head lo hi) ≤ 255
 unfolding countOf entryOf

@@ -1,19 +1,14 @@
 -- Pieces written one after another, and the listing by what the bytes decode to. Assumes nothing.
 use mathlib.Core.Path.{_≡_, refl, ap, _∙_}
-use mathlib.Core.Bool.{Bool, true, false, false≢true}
+use mathlib.Core.Bool.{true}
 use mathlib.Core.List.{List, [], _++_}
 use Prim.Native.Nat.{ℕ, _≤_}
 use lib.ListN.{length}
 use Rattle.store.specs.Placed.{putAll, joined}
 use Rattle.store.proofs.StoreLaws.{all-append}
-use Rattle.words.specs.Words.{byteAt}
-use Rattle.frame.specs.Frame.{frameOf, isSound}
-use Rattle.frame.specs.Address.{decodedFrom, decodedOf}
-use Rattle.frame.specs.declared.FrameCheck.{FrameCheck}
-use Rattle.frame.specs.declared.FrameCheck.the-variants.{Sound, Broken}
+use Rattle.frame.specs.Address.{decodedOf}
 use Rattle.frame.specs.declared.Decoded.{Decoded}
-use Rattle.frame.specs.declared.Decoded.the-variants.{Normal, Mirror, Broadcast, Refused}
-use Rattle.frame.proofs.FrameLaws.{framed}
+use Rattle.frame.proofs.DecodedLaws.{isTelegram, telegram-framed}
 use Rattle.listing.specs.Listing.{piecesOf, listing}
 
 -- `out` is l with the pieces xss written from a place on, and `at` is the place behind them
@@ -36,16 +31,6 @@ pub listing-by : (t : List ℕ) (d : Decoded) → decodedOf t ≡ d → listing 
 unfolding listing
 listing-by t d e = ap (λ (x : Decoded). joined (piecesOf t x)) e
 
--- one of the three kinds
-abbrev pub isTelegram : Decoded → Bool
-isTelegram (Normal node start end) = true
-isTelegram (Mirror node) = true
-isTelegram Broadcast = true
-isTelegram (Refused fault) = false
-
+-- one of the three kinds has at least five bytes
 pub telegram-long : (t : List ℕ) → isTelegram (decodedOf t) ≡ true → 5 ≤ length t
-telegram-long t h = go (frameOf t) refl h
-  where
-    go : (f : FrameCheck) → frameOf t ≡ f → isTelegram (decodedFrom f (byteAt t 2)) ≡ true → 5 ≤ length t
-    go (Sound end) e g = framed t (ap isSound e) .counted .long
-    go (Broken fault) e g = absurd (false≢true g)
+telegram-long t h = telegram-framed t (decodedOf t) refl h .counted .long

@@ -1,7 +1,8 @@
 -- `listing::list_decoded` meets its contract: each arm lists what `piecesOf` says of its case. Assumes nothing.
 use mathlib.Core.Path.{sym, ap, _∙_}
 use native.Mathlib.Omega.{arith}
-use Rattle.listing.proofs.ListingLaws.{listing-by, isTelegram, telegram-long}
+use Rattle.frame.proofs.DecodedLaws.{isTelegram}
+use Rattle.listing.proofs.ListingLaws.{listing-by, telegram-long}
 use borrow.Author.Needs.{needs}
 use Rattle.listing.proofs.list_decoded.Statement.{statement}
 use Rattle.listing.proofs.list_decoded.Tie as tie
