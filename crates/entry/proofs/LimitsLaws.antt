@@ -33,6 +33,11 @@ count-le head lo hi =
     let h : x ≤ 255 = omega arith in
     cond-bounds x 255 (lit≤ tt) h (eqb x 0) refl .1
 
+-- and at least one place
+pub count-ge : (e : Entry) → 1 ≤ countOf e
+unfolding countOf
+count-ge e = let x = e .elements in cond-bounds x (x + 1) (omega arith) (omega arith) (eqb x 0) refl .0
+
 -- the facts of a record that keeps the rules, both ways
 pub record Ruled (e : Entry) : Type 0 where
   pub numbers : e .number ≤ 31999

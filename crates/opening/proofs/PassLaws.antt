@@ -1,140 +1,218 @@
--- The one pass over table and values, as the code goes, and that it gives the answers 21 and 22. Assumes nothing.
+-- The passes over table and values, as the code goes, and that they give the answers 21 and 22. Assumes nothing.
 use Prim.Native.Nat.{ℕ, suc, _+_, _-_, _*_, _/_, _%_, _<_, _≤_}
 use mathlib.Core.Path.{_≡_, refl, sym, _∙_}
 use mathlib.Core.List.{List, [], _∷_}
-use mathlib.Core.Bool.{Bool, true, false, not, cond, _&&_, and-true, and-false, and-assoc}
+use mathlib.Core.Bool.{Bool, true, false, not, cond, _&&_, and-true, and-false, false≢true}
 use native.Mathlib.Omega.{arith}
 use native.Mathlib.Nat.{add-zero, zero-add}
 use borrow.Author.Tests.{le-leb, lt-leb, eq-eqb, ne-eqb, eqb-true}
 use lib.ListN.{length, getD}
 use lib.Dec.{eqb, leb}
+use Rattle.rows.proofs.BoolLaws.{and-left}
 use Rattle.entry.specs.declared.Entry.{Entry}
 use Rattle.entry.specs.Fields.{countOf}
-use Rattle.entry.specs.Limits.{isWithin, entryOk}
+use Rattle.entry.specs.Limits.{atMost, fitsIn, isWithin, entryOk}
 use Rattle.table.specs.Records.{entries, entriesFrom, countsOf}
-use Rattle.opening.specs.declared.Opening.{Opening}
 use Rattle.opening.specs.declared.Opening.the-variants.{Passed, Refused}
 use Rattle.opening.specs.declared.OpeningFault.the-variants.{BadTable, BadValues}
-use Rattle.opening.specs.Rules.{risingFrom, eachOk, runOk, runsOk}
+use Rattle.opening.specs.Rules.{risingFrom, eachOk, runOk, runsOk, tableOk, valuesOk}
 use Rattle.opening.specs.Answers.{contentOf}
 
--- the step of the loop over a record's values
+-- ---- one record
+
+-- a record's limits are in order
+abbrev pub limitsOk : Entry → Bool
+limitsOk e = fitsIn (e .double) (e .minimum) && fitsIn (e .double) (e .maximum) && atMost (e .double) (e .signed) (e .minimum) (e .maximum)
+
+-- the step of the loop over a record's values, and its end
+again : (a l w r : Bool) → (a && (l && (w && r))) ≡ ((a && (l && w)) && (l && r))
+again false l w r = refl
+again true false w r = refl
+again true true w r = refl
+
 module _ (e : Entry) (vs : List ℕ) (n place i : ℕ) where
+  -- s and b are what the code has for this value, and for all so far
+  pub run-on : (a s b : Bool) → i < n → s ≡ (limitsOk e && isWithin e (getD vs (place + i) 0)) → b ≡ (a && s)
+      → (a && (limitsOk e && runOk e vs (n - i) (place + i))) ≡ (b && (limitsOk e && runOk e vs (n - (i + 1)) (place + (i + 1))))
+  unfolding runOk
+  run-on a s b h p q =
+      let z : n - i ≡ suc (n - (i + 1)) = omega arith in
+      let y : place + (i + 1) ≡ suc (place + i) = omega arith in
+      rw (q, p, z, y) (again a (limitsOk e) (isWithin e (getD vs (place + i) 0)) (runOk e vs (n - (i + 1)) (suc (place + i))))
+
   pub run-end : n ≤ i → runOk e vs (n - i) (place + i) ≡ true
   unfolding runOk
   run-end h =
       let z : n - i ≡ 0 = omega arith in
       rw z
 
-  -- s and b are what the code has for the test of this value, and for all so far
-  pub run-on : (a s b : Bool) → i < n → s ≡ isWithin e (getD vs (place + i) 0) → b ≡ (a && s)
-      → (a && runOk e vs (n - i) (place + i)) ≡ (b && runOk e vs (n - (i + 1)) (place + (i + 1)))
-  unfolding runOk
-  run-on a s b h p q =
-      let z : n - i ≡ suc (n - (i + 1)) = omega arith in
-      let y : place + (i + 1) ≡ suc (place + i) = omega arith in
-      rw (q, p, z, y) (sym (and-assoc a (isWithin e (getD vs (place + i) 0)) (runOk e vs (n - (i + 1)) (suc (place + i)))))
+-- one value shows the limits to be in order
+pub shown : (a l w s b : Bool) → s ≡ (l && w) → b ≡ (a && s) → (b && l) ≡ b
+shown false l w s b p q = rw q
+shown true false w s b p q = rw (q, p)
+shown true true w s b p q = rw (q, p, and-true w)
 
--- what the loop over a record's values leaves
-pub run-all : (a b l r : Bool) → l ≡ true → (a && r) ≡ (b && true) → b ≡ (a && l && r)
-run-all a b l r h e = rw (h, and-true a) (sym (e ∙ and-true b))
+-- what the loop leaves
+pub run-all : (l f r b : Bool) → f ≡ true → (l && r) ≡ (b && (l && true)) → (b && l) ≡ b → b ≡ (l && f && r)
+run-all l f r b h e s = rw (h, and-true l, e, and-true l, s)
 
-pub run-short : (a l r : Bool) → l ≡ false → false ≡ (a && l && r)
-run-short a l r h = rw (h, and-false a)
+pub run-short : (l f r : Bool) → f ≡ false → false ≡ (l && f && r)
+run-short l f r h = rw (h, and-false l)
 
--- the answer by two tests
-abbrev pub answerOf : Bool → Bool → Opening
-answerOf table values = cond table (cond values Passed (Refused BadValues)) (Refused BadTable)
+-- one value
+pub run-one : (e : Entry) (vs : List ℕ) (place : ℕ) (r : Bool) → place < length vs → r ≡ (limitsOk e && isWithin e (getD vs place 0))
+    → r ≡ (limitsOk e && leb (place + 1) (length vs) && runOk e vs 1 place)
+unfolding runOk
+run-one e vs place r h q = rw (q, le-leb (place + 1) (length vs) (omega arith), and-true (limitsOk e), and-true (isWithin e (getD vs place 0)))
 
--- the pass: records that are left, the least number that may follow, the next place, and whether all values were inside
-unfoldable pub passFrom : List ℕ → List Entry → ℕ → ℕ → Bool → Opening
-passFrom vs [] least place inside = answerOf (leb place 4096) (inside && eqb place (length vs))
-passFrom vs (e ∷ es) least place inside =
-    cond (leb least (e .number))
-    (cond (entryOk e)
-    (passFrom vs es (e .number + 1) (place + countOf e) (inside && leb (place + countOf e) (length vs) && runOk e vs (countOf e) place))
-    (Refused BadTable))
-    (Refused BadTable)
+-- the rules that a record can break by itself
+module _ (e : Entry) where
+  pub number-over : 31999 < e .number → entryOk e ≡ false
+  unfolding entryOk
+  number-over h = simp (lt-leb _ _ h)
 
--- its steps and its ends, as the code tests
-module _ (vs : List ℕ) (least place : ℕ) (inside : Bool) where
-  pub pass-low : (e : Entry) (es : List Entry) → e .number < least → passFrom vs (e ∷ es) least place inside ≡ Refused BadTable
-  unfolding passFrom
-  pass-low e es h = simp (lt-leb _ _ h)
+  pub elements-over : 254 < e .elements → entryOk e ≡ false
+  unfolding entryOk
+  elements-over h = simp (lt-leb _ _ h, and-false)
 
-  pub pass-broken : (e : Entry) (es : List Entry) → least ≤ e .number → entryOk e ≡ false → passFrom vs (e ∷ es) least place inside ≡ Refused BadTable
-  unfolding passFrom
-  pass-broken e es h o = simp (le-leb _ _ h, o)
+  pub spare-set : (e .spare ≡ 0 → ⊥) → entryOk e ≡ false
+  unfolding entryOk
+  spare-set h = simp (ne-eqb _ _ h, and-false)
 
-  pub pass-on : (e : Entry) (es : List Entry) (n : ℕ) (r : Bool) → least ≤ e .number → entryOk e ≡ true → n ≡ countOf e
-      → r ≡ (inside && leb (place + n) (length vs) && runOk e vs n place)
-      → passFrom vs (e ∷ es) least place inside ≡ passFrom vs es (e .number + 1) (place + n) r
-  unfolding passFrom
-  pass-on e es n r h o c q = simp (le-leb _ _ h, o, ← c, ← q)
+  pub entry-limits : e .number ≤ 31999 → e .elements ≤ 254 → e .spare ≡ 0 → entryOk e ≡ limitsOk e
+  unfolding entryOk
+  entry-limits p q h = simp (le-leb _ _ p, le-leb _ _ q, eq-eqb _ _ h)
 
-  pub pass-over : 4096 < place → passFrom vs [] least place inside ≡ Refused BadTable
-  unfolding passFrom
-  pass-over h = simp (lt-leb _ _ h)
+-- a record and its values are in order
+abbrev pub fineOf : Entry → List ℕ → ℕ → Bool
+fineOf e vs place = entryOk e && leb (place + countOf e) (length vs) && runOk e vs (countOf e) place
 
-  pub pass-outside : place ≤ 4096 → inside ≡ false → passFrom vs [] least place inside ≡ Refused BadValues
-  unfolding passFrom
-  pass-outside h o = simp (le-leb _ _ h, o)
+module _ (e : Entry) (vs : List ℕ) (place : ℕ) where
+  pub fine-broken : (next : ℕ) → entryOk e ≡ false → (false ≡ fineOf e vs place) × (false ≡ true → next ≡ place + countOf e)
+  fine-broken next h = (rw h, λ f. absurd (false≢true f))
 
-  pub pass-count : place ≤ 4096 → inside ≡ true → (place ≡ length vs → ⊥) → passFrom vs [] least place inside ≡ Refused BadValues
-  unfolding passFrom
-  pass-count h o q = simp (le-leb _ _ h, o, ne-eqb _ _ q)
+  -- its n values were looked at, and its limits with them
+  pub fine-run : (n : ℕ) (r : Bool) → countOf e ≡ n → entryOk e ≡ limitsOk e → r ≡ (limitsOk e && leb (place + n) (length vs) && runOk e vs n place)
+      → (r ≡ fineOf e vs place) × (r ≡ true → place + n ≡ place + countOf e)
+  fine-run n r c o q = (q ∙ rw (c, o), λ f. rw c)
 
-  pub pass-end : place ≤ 4096 → inside ≡ true → place ≡ length vs → passFrom vs [] least place inside ≡ Passed
-  unfolding passFrom
-  pass-end h o q = simp (le-leb _ _ h, o, eq-eqb _ _ q)
+  pub fine-entry : (r : Bool) → r ≡ fineOf e vs place → r ≡ true → entryOk e ≡ true
+  fine-entry r q f =
+      let l = leb (place + countOf e) (length vs) in
+      and-left (entryOk e) l (and-left (entryOk e && l) (runOk e vs (countOf e) place) (sym q ∙ f))
 
--- a record's tests and the rest's, in the pass and in the rules
-table-tests : (p q a b d v : Bool) → cond p (cond q (answerOf (a && b && d) v) (Refused BadTable)) (Refused BadTable) ≡ answerOf (p && a && (q && b) && d) v
-table-tests false q a b d v = refl
-table-tests true false false b d v = refl
-table-tests true false true b d v = refl
-table-tests true true a b d v = refl
+-- ---- the table, and the values with it
+
+-- of the records that are left, the least number that may follow, and the next place
+abbrev pub ruledFrom : List Entry → ℕ → ℕ → Bool
+ruledFrom es least place = risingFrom least es && eachOk es && leb (place + countsOf es) 4096
+
+abbrev pub goodFrom : List ℕ → List Entry → ℕ → ℕ → Bool
+goodFrom vs es least place = ruledFrom es least place && (eqb (place + countsOf es) (length vs) && runsOk es vs place)
+
+rule-tests : (p q a b d : Bool) → ((p && a) && (q && b) && d) ≡ (p && q && (a && b && d))
+rule-tests false q a b d = refl
+rule-tests true false false b d = refl
+rule-tests true false true b d = refl
+rule-tests true true a b d = refl
 
 -- the values of a record are there where the count is right
-value-tests : (g b r q s : Bool) → (q ≡ true → b ≡ true) → (g && b && r && (q && s)) ≡ (g && (q && (r && s)))
-value-tests false b r q s h = refl
-value-tests true b r true s h = rw (h refl)
-value-tests true false r false s h = refl
-value-tests true true false false s h = refl
-value-tests true true true false s h = refl
+value-tests : (t q g f r s : Bool) → (q ≡ true → f ≡ true) → (t && g && (q && (r && s))) ≡ (t && f && r && (g && (q && s)))
+value-tests false q g f r s h = refl
+value-tests true true false f true s h = rw (h refl)
+value-tests true true false f false s h = rw (h refl)
+value-tests true true true f r s h = rw (h refl)
+value-tests true false g false r s h = simp and-false
+value-tests true false g true false s h = simp and-false
+value-tests true false g true true s h = simp and-false
 
--- the pass gives what the rules say
-pub pass-is : (vs : List ℕ) (es : List Entry) (least place : ℕ) (inside : Bool)
-    → passFrom vs es least place inside
-    ≡ answerOf (risingFrom least es && eachOk es && leb (place + countsOf es) 4096) (inside && (eqb (place + countsOf es) (length vs) && runsOk es vs place))
-unfolding passFrom risingFrom eachOk countsOf runsOk
-pass-is vs [] least place inside = simp (add-zero, and-true)
-pass-is vs (e ∷ es) least place inside =
-    let c = countOf e in
-    let k = countsOf es in
-    let l = length vs in
-    let fits = leb (place + c) l in
-    let run = runOk e vs c place in
-    let count = eqb (place + c + k) l in
-    let rest = runsOk es vs (place + c) in
-    let there : count ≡ true → fits ≡ true = λ q. le-leb (place + c) l (omega (arith, eqb-true (place + c + k) l q)) in
-    let z : place + (c + k) ≡ place + c + k = omega arith in
-    rw (z, pass-is vs es (e .number + 1) (place + c) (inside && fits && run), value-tests inside fits run count rest there)
-    (table-tests (leb least (e .number)) (entryOk e) (risingFrom (e .number + 1) es) (eachOk es) (leb (place + c + k) 4096) (inside && (count && (run && rest))))
+module _ (e : Entry) (es : List Entry) (least place : ℕ) where
+  rule-step : ruledFrom (e ∷ es) least place ≡ (leb least (e .number) && entryOk e && ruledFrom es (e .number + 1) (place + countOf e))
+  unfolding risingFrom eachOk countsOf
+  rule-step =
+      let z : place + (countOf e + countsOf es) ≡ place + countOf e + countsOf es = omega arith in
+      rw z (rule-tests (leb least (e .number)) (entryOk e) (risingFrom (e .number + 1) es) (eachOk es) (leb (place + countOf e + countsOf es) 4096))
 
-answer-rows : (a b : Bool) → answerOf a b ≡ cond (not a) (Refused BadTable) (cond (not b) (Refused BadValues) Passed)
-answer-rows false b = refl
-answer-rows true false = refl
-answer-rows true true = refl
+  pub rule-low : e .number < least → ruledFrom (e ∷ es) least place ≡ false
+  rule-low h = rule-step ∙ simp (lt-leb _ _ h)
 
--- so it gives the answers 21 and 22, of a table of n whole records
-pub pass-content : (t vs : List ℕ) (n : ℕ) → length t ≡ 12 * n → n ≤ 512 → contentOf t vs ≡ passFrom vs (entriesFrom t n 0) 0 0 true
-unfolding contentOf entries
-pass-content t vs n h g =
-    let whole = eq-eqb (length t % 12) 0 (omega arith) in
-    let few = le-leb (length t / 12) 512 (omega arith) in
-    let count : length t / 12 ≡ n = omega arith in
-    rw (whole, few, count, pass-is vs (entriesFrom t n 0) 0 0 true, zero-add, answer-rows)
+  pub rule-broken : entryOk e ≡ false → ruledFrom (e ∷ es) least place ≡ false
+  rule-broken o = rule-step ∙ simp (o, and-false)
+
+  pub rule-on : least ≤ e .number → entryOk e ≡ true → ruledFrom (e ∷ es) least place ≡ ruledFrom es (e .number + 1) (place + countOf e)
+  rule-on h o = rule-step ∙ simp (le-leb _ _ h, o)
+
+  pub good-low : (vs : List ℕ) → e .number < least → goodFrom vs (e ∷ es) least place ≡ false
+  good-low vs h = rw (rule-low h)
+
+  -- `fine` is what the code has for the record and its values
+  good-step : (vs : List ℕ) → least ≤ e .number → goodFrom vs (e ∷ es) least place
+      ≡ (fineOf e vs place && goodFrom vs es (e .number + 1) (place + countOf e))
+  unfolding countsOf runsOk
+  good-step vs h =
+      let c = place + countOf e in
+      let k = countsOf es in
+      let l = length vs in
+      let z : place + (countOf e + k) ≡ c + k = omega arith in
+      let there : eqb (c + k) l ≡ true → leb c l ≡ true = λ q. le-leb c l (omega (arith, eqb-true (c + k) l q)) in
+      rw (rule-step, le-leb least (e .number) h, z)
+      (value-tests (entryOk e) (eqb (c + k) l) (ruledFrom es (e .number + 1) c) (leb c l) (runOk e vs (countOf e) place) (runsOk es vs c) there)
+
+  pub good-broken : (vs : List ℕ) (fine : Bool) → least ≤ e .number → fine ≡ fineOf e vs place → fine ≡ false
+      → goodFrom vs (e ∷ es) least place ≡ false
+  good-broken vs fine h q f = good-step vs h ∙ rw (← q, f)
+
+  pub good-on : (vs : List ℕ) (fine : Bool) → least ≤ e .number → fine ≡ fineOf e vs place → fine ≡ true
+      → goodFrom vs (e ∷ es) least place ≡ goodFrom vs es (e .number + 1) (place + countOf e)
+  good-on vs fine h q f = good-step vs h ∙ rw (← q, f)
+
+-- no record is left
+module _ (least place : ℕ) where
+  pub rule-end : ruledFrom [] least place ≡ leb place 4096
+  unfolding risingFrom eachOk countsOf
+  rule-end = simp add-zero
+
+  pub good-over : (vs : List ℕ) → 4096 < place → goodFrom vs [] least place ≡ false
+  good-over vs h = rw (rule-end, lt-leb _ _ h)
+
+  pub good-end : (vs : List ℕ) → place ≤ 4096 → goodFrom vs [] least place ≡ eqb place (length vs)
+  unfolding countsOf runsOk
+  good-end vs h = rw (rule-end, le-leb _ _ h) (simp (add-zero, and-true))
+
+-- all records of a table of n whole ones
+module _ (t : List ℕ) (n : ℕ) (whole : length t ≡ 12 * n) (few : n ≤ 512) where
+  pub rule-all : tableOk t ≡ ruledFrom (entriesFrom t n 0) 0 0
+  unfolding entries
+  rule-all =
+      let count : length t / 12 ≡ n = omega arith in
+      rw (eq-eqb (length t % 12) 0 (omega arith), le-leb (length t / 12) 512 (omega arith), count, zero-add)
+
+  pub good-all : (vs : List ℕ) → (tableOk t && valuesOk t vs) ≡ goodFrom vs (entriesFrom t n 0) 0 0
+  unfolding entries
+  good-all vs =
+      let count : length t / 12 ≡ n = omega arith in
+      rw (rule-all, count, zero-add)
+
+-- ---- the answers 21 and 22
+
+content-tests : (a b : Bool) → cond (not a) (Refused BadTable) (cond (not b) (Refused BadValues) Passed) ≡ cond (a && b) Passed (cond a (Refused BadValues) (Refused BadTable))
+content-tests false b = refl
+content-tests true false = refl
+content-tests true true = refl
+
+module _ (t vs : List ℕ) where
+  content-is : contentOf t vs ≡ cond (tableOk t && valuesOk t vs) Passed (cond (tableOk t) (Refused BadValues) (Refused BadTable))
+  unfolding contentOf
+  content-is = content-tests (tableOk t) (valuesOk t vs)
+
+  pub content-passed : (tableOk t && valuesOk t vs) ≡ true → contentOf t vs ≡ Passed
+  content-passed h = content-is ∙ rw h
+
+  pub content-values : (tableOk t && valuesOk t vs) ≡ false → tableOk t ≡ true → contentOf t vs ≡ Refused BadValues
+  content-values h o = content-is ∙ rw (h, o)
+
+  pub content-table : (tableOk t && valuesOk t vs) ≡ false → tableOk t ≡ false → contentOf t vs ≡ Refused BadTable
+  content-table h o = content-is ∙ rw (h, o)
 
 -- a table of another length, or of more records, breaks a rule
 pub part-content : (t vs : List ℕ) → (length t % 12 ≡ 0 → ⊥) → contentOf t vs ≡ Refused BadTable

@@ -1,18 +1,23 @@
-// The opening check: set-up, table, values and reply buffer, with one pass over table and values (document 01, answers 20 to 23).
+// The opening check: set-up, table, values and reply buffer (document 01, answers 20 to 23). One pass over table and values finds
+// whether all is in order; only where it is not, the table is gone through by itself, since its rules come first.
 ghost use mathlib.Core.Path.{_≡_};
-ghost use mathlib.Core.Bool.{_&&_};
+ghost use mathlib.Core.Bool.{true, _&&_, cond};
 ghost use Prim.Native.Nat.{_+_, _*_, _≤_};
 ghost use lib.Dec.{leb};
 ghost use lib.ListN.{length};
-ghost use Rattle.opening.specs.Rules.{runOk};
+ghost use Rattle.entry.specs.Fields.{countOf};
+ghost use Rattle.entry.specs.Limits.{fitsIn, atMost, isWithin, entryOk};
+ghost use Rattle.table.specs.Records.{entryAt};
+ghost use Rattle.opening.specs.Rules.{runOk, tableOk, valuesOk};
 ghost use Rattle.opening.specs.Answers.{contentOf, openingOf};
 use entry::Entry;
 use entry::count_places;
+use entry::entry_of;
 use entry::entry_ok;
-use entry::within;
 use setup::Setup;
 use setup::setup_ok;
-use table::entry_at;
+use words::join;
+use words::join_double;
 
 // Why the opening check refuses.
 pub enum OpeningFault {
@@ -27,6 +32,48 @@ pub enum Opening {
     Refused(OpeningFault),
 }
 
+// ---- a record
+
+// Record k of a table that has it.
+fn read_record(t: &[u8], k: usize) -> Entry
+    requires { ⌜ 12 * k + 12 ≤ length (now t) ⌝ }
+    ensures { λ r. ⌜ r ≡ entryAt (now (t .entry)) k ⌝ }
+{
+    let at = 12 * k;
+    let head = join_double(join(t[at], t[at + 1]), join(t[at + 2], t[at + 3]));
+    let minimum = join_double(join(t[at + 4], t[at + 5]), join(t[at + 6], t[at + 7]));
+    let maximum = join_double(join(t[at + 8], t[at + 9]), join(t[at + 10], t[at + 11]));
+    entry_of(head, minimum, maximum)
+}
+
+// The sign bit of a kind, 0 where it has none.
+fn sign_of(double: bool, signed: bool) -> u32
+    ensures { λ r. ⌜ r ≡ cond signed (cond double 2147483648 32768) 0 ⌝ }
+{
+    if signed {
+        if double { 2147483648 } else { 32768 }
+    } else {
+        0
+    }
+}
+
+// Whether a record's limits are in order and a value is within them. With the sign bit of its kind flipped, numbers of all four
+// kinds compare as unsigned ones; and a value between the limits shows that these are in order.
+fn holds(e: Entry, v: u32) -> bool
+    ensures { λ r. ⌜ r ≡ (fitsIn (e .double) (e .minimum) && fitsIn (e .double) (e .maximum) && atMost (e .double) (e .signed) (e .minimum) (e .maximum) && isWithin e v) ⌝ }
+{
+    let sign = sign_of(e.double, e.signed);
+    let x = v ^ sign;
+    let high = e.maximum ^ sign;
+    if x < e.minimum ^ sign {
+        return false;
+    }
+    if high < x {
+        return false;
+    }
+    if e.double { true } else { high <= 65535 }
+}
+
 // Both of two tests.
 fn hold_both(a: bool, b: bool) -> bool
     ensures { λ r. ⌜ r ≡ (a && b) ⌝ }
@@ -34,61 +81,129 @@ fn hold_both(a: bool, b: bool) -> bool
     if a { b } else { false }
 }
 
-// Whether all was inside so far, and n values from a place on are there and within one record's limits. The loop has no other
-// way out, so that it can be compiled to look at several values at once.
-fn run_ok(inside: bool, e: Entry, values: &[u32], n: usize, place: usize) -> bool
-    requires { ⌜ (place ≤ 1000000) × (n ≤ 1000000) ⌝ }
-    ensures { λ r. ⌜ r ≡ (inside && leb (place + n) (length (now (values .entry))) && runOk e (now (values .entry)) n place) ⌝ }
+// The same of the value at a place, which must be there.
+fn value_holds(e: Entry, values: &[u32], place: usize) -> bool
+    requires { ⌜ place ≤ 1000000 ⌝ }
+    ensures { λ r. ⌜ r ≡ (fitsIn (e .double) (e .minimum) && fitsIn (e .double) (e .maximum) && atMost (e .double) (e .signed) (e .minimum) (e .maximum) && leb (place + 1) (length (now (values .entry))) && runOk e (now (values .entry)) 1 place) ⌝ }
+{
+    if values.len() <= place {
+        return false;
+    }
+    holds(e, values[place])
+}
+
+// The same of n values from a place on, which must be there. The loop has no other way out, so that it can be compiled to look at
+// several values at once.
+fn run_holds(e: Entry, values: &[u32], n: usize, place: usize) -> bool
+    requires { ⌜ (place ≤ 1000000) × (1 ≤ n) × (n ≤ 1000000) ⌝ }
+    ensures { λ r. ⌜ r ≡ (fitsIn (e .double) (e .minimum) && fitsIn (e .double) (e .maximum) && atMost (e .double) (e .signed) (e .minimum) (e .maximum) && leb (place + n) (length (now (values .entry))) && runOk e (now (values .entry)) n place) ⌝ }
 {
     if values.len() < place + n {
         return false;
     }
-    let mut all = inside;
+    let mut all = true;
     let mut i = 0;
     while i < n {
-        all = hold_both(all, within(e, values[place + i]));
+        all = hold_both(all, holds(e, values[place + i]));
         i += 1;
     }
     all
 }
 
-// The n records of a table, and the values that go with them. A record that breaks a rule ends the pass; a value outside its
-// limits is kept in mind, since the table's rules come first.
-fn walk(t: &[u8], values: &[u32], n: u16) -> Opening
+// What a record and its values come to: the place after them, and whether both are in order.
+struct Run {
+    next: usize,
+    fine: bool,
+}
+
+fn check_record(e: Entry, values: &[u32], place: usize) -> Run
+    requires { ⌜ place ≤ 1000000 ⌝ }
+    ensures { λ r. ⌜ (r .fine ≡ (entryOk e && leb (place + countOf e) (length (now (values .entry))) && runOk e (now (values .entry)) (countOf e) place)) × (r .fine ≡ true → r .next ≡ place + countOf e) ⌝ }
+{
+    if 31999 < e.number {
+        return Run {
+            next: place,
+            fine: false,
+        };
+    }
+    if e.spare != 0 {
+        return Run {
+            next: place,
+            fine: false,
+        };
+    }
+    if e.elements == 0 {
+        return Run {
+            next: place + 1,
+            fine: value_holds(e, values, place),
+        };
+    }
+    if 254 < e.elements {
+        return Run {
+            next: place,
+            fine: false,
+        };
+    }
+    let n = e.elements as usize;
+    Run {
+        next: place + n,
+        fine: run_holds(e, values, n, place),
+    }
+}
+
+// ---- the table and its values
+
+// Whether n records and their values are all in order.
+fn in_order(t: &[u8], values: &[u32], n: usize) -> bool
     requires { ⌜ (length (now t) ≡ 12 * n) × (n ≤ 512) ⌝ }
-    ensures { λ r. ⌜ r ≡ contentOf (now (t .entry)) (now (values .entry)) ⌝ }
+    ensures { λ r. ⌜ r ≡ (tableOk (now (t .entry)) && valuesOk (now (t .entry)) (now (values .entry))) ⌝ }
 {
     let mut least: u16 = 0;
     let mut place: usize = 0;
-    let mut inside = true;
-    let mut k: u16 = 0;
+    let mut k: usize = 0;
     while k < n {
-        let e = entry_at(t, k);
+        let e = read_record(t, k);
         if e.number < least {
-            return Opening::Refused(OpeningFault::BadTable);
+            return false;
         }
-        if !entry_ok(e) {
-            return Opening::Refused(OpeningFault::BadTable);
+        let run = check_record(e, values, place);
+        if !run.fine {
+            return false;
         }
-        let count = count_places(e);
-        inside = run_ok(inside, e, values, count, place);
         least = e.number + 1;
-        place += count;
+        place = run.next;
         k += 1;
     }
     if 4096 < place {
-        return Opening::Refused(OpeningFault::BadTable);
+        return false;
     }
-    if !inside {
-        return Opening::Refused(OpeningFault::BadValues);
-    }
-    if place != values.len() {
-        return Opening::Refused(OpeningFault::BadValues);
-    }
-    Opening::Passed
+    place == values.len()
 }
 
-// The table and its values.
+// Whether n records keep the table's rules.
+fn table_ok(t: &[u8], n: usize) -> bool
+    requires { ⌜ (length (now t) ≡ 12 * n) × (n ≤ 512) ⌝ }
+    ensures { λ r. ⌜ r ≡ tableOk (now (t .entry)) ⌝ }
+{
+    let mut least: u16 = 0;
+    let mut place: usize = 0;
+    let mut k: usize = 0;
+    while k < n {
+        let e = read_record(t, k);
+        if e.number < least {
+            return false;
+        }
+        if !entry_ok(e) {
+            return false;
+        }
+        least = e.number + 1;
+        place += count_places(e);
+        k += 1;
+    }
+    place <= 4096
+}
+
+// The table and its values: 21 before 22.
 fn check_content(t: &[u8], values: &[u32]) -> Opening
     ensures { λ r. ⌜ r ≡ contentOf (now (t .entry)) (now (values .entry)) ⌝ }
 {
@@ -99,7 +214,13 @@ fn check_content(t: &[u8], values: &[u32]) -> Opening
     if 512 < n {
         return Opening::Refused(OpeningFault::BadTable);
     }
-    walk(t, values, n as u16)
+    if in_order(t, values, n) {
+        return Opening::Passed;
+    }
+    if table_ok(t, n) {
+        return Opening::Refused(OpeningFault::BadValues);
+    }
+    Opening::Refused(OpeningFault::BadTable)
 }
 
 // The opening check. `room` is the length of the reply buffer.

@@ -1,8 +1,8 @@
 -- Laws of a parameter task. Assumes nothing.
 use mathlib.Core.Path.{_≡_, refl, sym, ap, _∙_}
-use mathlib.Core.Bool.{Bool, true, false, not, _&&_, cond, false≢true}
+use mathlib.Core.Bool.{Bool, true, false, not, _&&_, _||_, cond, false≢true}
 use mathlib.Core.List.{List}
-use Prim.Native.Nat.{ℕ, _+_, _/_, _%_, _≤_, _<_}
+use Prim.Native.Nat.{ℕ, _+_, _*_, _/_, _%_, _≤_, _<_}
 use native.Mathlib.Omega.{arith}
 use borrow.Author.Tests.{eqb-true, eqb-false, leb-false, lt-ltb, le-ltb, not-false}
 use lib.Dec.{eqb, leb, lit<}
@@ -15,9 +15,9 @@ use Rattle.net.specs.declared.Area.{Area}
 use Rattle.table.specs.declared.Found.{Found}
 use Rattle.table.specs.declared.Found.the-variants.{At, Nothing}
 use Rattle.table.specs.Records.{findIn, entryAt, entries, firstPlace, countsOf}
-use Rattle.table.proofs.RecordsLaws.{found-below, places-fit}
+use Rattle.table.proofs.RecordsLaws.{found-below, places-fit, one-each}
 use Rattle.task.specs.declared.Act.{Act}
-use Rattle.task.specs.declared.Act.the-variants.{Change}
+use Rattle.task.specs.declared.Act.the-variants.{Nothing as Idle, Read, Change, Count, Refuse}
 use Rattle.task.specs.declared.Width.{Width}
 use Rattle.task.specs.declared.Task.{Task}
 use Rattle.task.specs.declared.ParameterError.{ParameterError}
@@ -25,7 +25,7 @@ use Rattle.task.specs.declared.ParameterError.the-variants.{NoTask, NoArray, No
 use Rattle.task.specs.declared.Verdict.{Verdict}
 use Rattle.task.specs.declared.Verdict.the-variants.{Granted, Denied}
 use Rattle.task.specs.Page.{baseOf, fullNumber, named}
-use Rattle.task.specs.Verdict.{refusesAct, noArray, noElement, otherWidth, noRoom, verdictOf, elementOf}
+use Rattle.task.specs.Verdict.{refusesAct, changesAct, noArray, noElement, otherWidth, noRoom, verdictOf, elementOf}
 use Rattle.slave.specs.Perform.{Performed, readReply, carried, errorArea, emptyArea, doneOf, verdictFor, performOn, performFound, performTask, foundOf, idle}
 
 pub read-reply-le : (reply : ℕ) (double : Bool) → reply ≤ 14 → readReply reply double ≤ 15
@@ -70,15 +70,30 @@ granted-inside width array elements double writable inside index n e =
     let p6 = row-passed isGranted (not inside) (Denied OutsideLimits) _ refl (p5 .1) in
     not-false inside (p6 .0)
 
+-- limits are asked of changes alone
+pub verdict-inside : (act : Act) (width : Width) (array : Bool) (elements : ℕ) (double writable inside : Bool) (index n : ℕ)
+    → verdictOf act width array elements double writable (not (changesAct act) || inside) index n ≡ verdictOf act width array elements double writable inside index n
+unfolding verdictOf
+verdict-inside Idle width array elements double writable inside index n = refl
+verdict-inside Read width array elements double writable inside index n = refl
+verdict-inside Change width array elements double writable inside index n = refl
+verdict-inside Count width array elements double writable inside index n = refl
+verdict-inside Refuse width array elements double writable inside index n = refl
+
 -- ---- what is found is one of the records, and its places are among the values
 
-pub found-few : (t : List ℕ) (number k : ℕ) → length t ≤ 6144 → findIn t number ≡ At k → k < 512
+pub found-whole : (t : List ℕ) (number k : ℕ) → findIn t number ≡ At k → 12 * k + 12 ≤ length t
 unfolding entries
-found-few t number k h e = omega (arith, found-below number t (length t / 12) 0 k e .below)
+found-whole t number k e = omega (arith, found-below number t (length t / 12) 0 k e .below)
 
 pub found-fits : (t : List ℕ) (number k : ℕ) → findIn t number ≡ At k → firstPlace t k + countOf (entryAt t k) ≤ countsOf (entries t)
 unfolding entries
 found-fits t number k e = places-fit t (length t / 12) k (omega (arith, found-below number t (length t / 12) 0 k e .below))
+
+-- where there are no more places than records, record k's is place k
+pub places-single : (t : List ℕ) (k : ℕ) → 12 * k ≤ length t → countsOf (entries t) ≤ length t / 12 → k ≡ firstPlace t k
+unfolding entries
+places-single t k h c = one-each t (length t / 12) k (omega arith) c
 
 -- ---- the cases of a task
 

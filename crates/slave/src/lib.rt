@@ -1,9 +1,12 @@
 // The slave (document 01, Slave): one call takes a received page, runs its task on the lent values, and answers.
 ghost use mathlib.Core.Path.{_≡_};
-ghost use Prim.Native.Nat.{_+_, _≤_, _<_};
+ghost use mathlib.Core.Bool.{not, _||_};
+ghost use Prim.Native.Nat.{_+_, _*_, _≤_, _<_};
 ghost use lib.ListN.{length, set};
 ghost use Rattle.entry.specs.Fields.{countOf};
-ghost use Rattle.table.specs.Records.{countsOf, entries};
+ghost use Rattle.entry.specs.Limits.{isWithin};
+ghost use Rattle.table.specs.Records.{entryAt, countsOf, entries, firstPlace};
+ghost use Rattle.task.specs.Verdict.{changesAct};
 ghost use Rattle.opening.specs.Answers.{openingOf};
 ghost use Rattle.opening.specs.declared.Opening.the-variants.{Passed};
 ghost use Rattle.slave.specs.Perform.{replyArea, elementCount, carried, readReply, idle, doneOf, performOn, performOf, Performs};
@@ -22,6 +25,8 @@ use task::Task;
 use task::Verdict;
 use task::Width;
 use words::Words;
+use words::join;
+use words::join_double;
 
 // Why a call is refused: by the opening check (20 to 23), by the frame or the address (10 to 15), or 16, 17, 18.
 pub enum Refusal {
@@ -128,6 +133,19 @@ fn run_act(
     }
 }
 
+// Whether a change keeps to the record's limits; other tasks change nothing.
+fn is_inside(act: Act, e: Entry, value: u32) -> bool
+    ensures { λ r. ⌜ r ≡ (not (changesAct act) || isWithin e value) ⌝ }
+{
+    match act {
+        Act::Nothing => true,
+        Act::Read => true,
+        Act::Change => entry::within(e, value),
+        Act::Count => true,
+        Act::Refuse => true,
+    }
+}
+
 // A task on a record whose first value place is `first`: the first error that applies, or the act.
 fn perform_on(n: u8, task: Task, area: Area, e: Entry, values: &mut [u32], first: usize) -> Area
     requires { ⌜ (task .reply ≤ 14) × (first + countOf e ≤ length (now values)) ⌝ }
@@ -137,7 +155,7 @@ fn perform_on(n: u8, task: Task, area: Area, e: Entry, values: &mut [u32], first
     let width = task.width;
     let index = (area.ind % 256) as u8;
     let value = carry(width, area.value);
-    let inside = entry::within(e, value);
+    let inside = is_inside(act, e, value);
     let verdict = task::judge(
         act,
         width,
@@ -166,6 +184,51 @@ fn perform_on(n: u8, task: Task, area: Area, e: Entry, values: &mut [u32], first
             )
         }
     }
+}
+
+// Record k of a table that has it.
+fn read_record(t: &[u8], k: usize) -> Entry
+    requires { ⌜ 12 * k + 12 ≤ length (now t) ⌝ }
+    ensures { λ r. ⌜ r ≡ entryAt (now (t .entry)) k ⌝ }
+{
+    let at = 12 * k;
+    let head = join_double(join(t[at], t[at + 1]), join(t[at + 2], t[at + 3]));
+    let minimum = join_double(join(t[at + 4], t[at + 5]), join(t[at + 6], t[at + 7]));
+    let maximum = join_double(join(t[at + 8], t[at + 9]), join(t[at + 10], t[at + 11]));
+    entry::entry_of(head, minimum, maximum)
+}
+
+// The places of record k of a table that has it: of its first 32 bits, only the lower word tells.
+fn count_at(t: &[u8], k: usize) -> usize
+    requires { ⌜ 12 * k + 12 ≤ length (now t) ⌝ }
+    ensures { λ r. ⌜ r ≡ countOf (entryAt (now (t .entry)) k) ⌝ }
+{
+    let low = join(t[12 * k + 2], t[12 * k + 3]);
+    entry::count_places(entry::entry_of(low as u32, 0, 0))
+}
+
+// The sum of the places of the records before record k.
+fn sum_places(t: &[u8], k: usize) -> usize
+    requires { ⌜ (12 * k ≤ length (now t)) × (k ≤ 512) ⌝ }
+    ensures { λ r. ⌜ r ≡ firstPlace (now (t .entry)) k ⌝ }
+{
+    let mut sum: usize = 0;
+    for i in 0..k {
+        sum += count_at(t, i);
+    }
+    sum
+}
+
+// The first value place of record k, in a table whose records take `count` places at most. Where there are no more places than
+// records, each takes one.
+fn first_place(t: &[u8], k: usize, count: usize) -> usize
+    requires { ⌜ (12 * k ≤ length (now t)) × (k ≤ 512) × (countsOf (entries (now t)) ≤ count) ⌝ }
+    ensures { λ r. ⌜ r ≡ firstPlace (now (t .entry)) k ⌝ }
+{
+    if count == t.len() / 12 {
+        return k;
+    }
+    sum_places(t, k)
 }
 
 // Whether the act is that of task 0.
@@ -202,10 +265,9 @@ fn perform(n: u8, table: &[u8], values: &mut [u32], area: Area) -> Area
     let number = task::full_number(area.pke, area.ind);
     match table::find(table, number) {
         Found::Nothing => reply_area(area, 7, 0),
-        Found::At(place) => {
-            let k = place as u16;
-            let e = table::entry_at(table, k);
-            let first = table::first_place(table, k);
+        Found::At(k) => {
+            let e = read_record(table, k);
+            let first = first_place(table, k, values.len());
             perform_on(n, task, area, e, values, first)
         }
     }

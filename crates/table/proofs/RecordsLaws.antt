@@ -1,5 +1,5 @@
 -- Laws of the records of a table. Assumes nothing.
-use Prim.Native.Nat.{ℕ, zero, suc, _+_, _-_, _*_, _/_, _<_, _≤_}
+use Prim.Native.Nat.{ℕ, zero, suc, _+_, _-_, _*_, _/_, _%_, _<_, _≤_}
 use mathlib.Core.Path.{_≡_, refl, sym, ap, _∙_}
 use mathlib.Core.List.{List, [], _∷_}
 use mathlib.Core.Bool.{Bool, true, false, cond}
@@ -7,11 +7,11 @@ use lib.Dec.{eqb}
 use native.Mathlib.Omega.{arith}
 use native.Mathlib.Numerals.{add-one}
 use native.Mathlib.Nat.{zero-add, add-zero, suc-add}
-use borrow.Author.Tests.{eq-eqb, ne-eqb, eqb-true}
-use Rattle.words.specs.Words.{wordAt, doubleAt, Bytes}
+use borrow.Author.Tests.{eq-eqb, ne-eqb, eqb-true, eqb-false}
+use Rattle.words.specs.Words.{byteAt, wordOf, doubleOf, doubleAt, Bytes}
 use Rattle.entry.specs.declared.Entry.{Entry}
 use Rattle.entry.specs.Fields.{entryOf, countOf}
-use Rattle.entry.proofs.LimitsLaws.{count-le}
+use Rattle.entry.proofs.LimitsLaws.{count-le, count-ge}
 use Rattle.table.specs.declared.Found.{Found}
 use Rattle.table.specs.declared.Found.the-variants.{At, Nothing}
 use Rattle.table.specs.Records.{entryAt, entriesFrom, findFrom, countsOf}
@@ -29,14 +29,55 @@ entries-end t n k h =
     let e : n - k ≡ 0 = omega arith in
     rw e
 
--- the number is in the first word of a record, the elements in its first 32 bits
-pub number-is : (t : List ℕ) (k : ℕ) → Bytes t → wordAt t (12 * k) / 2 ≡ entryAt t k .number
-unfolding entryAt entryOf
-number-is t k b = omega (arith, b (12 * k + 2), b (12 * k + 2 + 1))
+-- two tests for equality of one outcome
+eqb-iff : (x y u v : ℕ) → (x ≡ y → u ≡ v) → (u ≡ v → x ≡ y) → eqb x y ≡ eqb u v
+eqb-iff x y u v f g = go (eqb x y) refl
+  where
+    go : (b : Bool) → eqb x y ≡ b → eqb x y ≡ eqb u v
+    go true e = e ∙ sym (eq-eqb u v (f (eqb-true x y e)))
+    go false e = e ∙ sym (ne-eqb u v (λ q. eqb-false x y e (g q)))
 
-pub count-is : (t : List ℕ) (k : ℕ) → countOf (entryOf (doubleAt t (12 * k)) 0 0) ≡ countOf (entryAt t k)
-unfolding entryAt entryOf countOf
-count-is t k = refl
+-- the number is in the first two bytes of a record: eight bits of it in the first, seven in the second
+module _ (t : List ℕ) (k number : ℕ) (b : Bytes t) where
+  pub number-same : byteAt t (12 * k) ≡ number / 128 → eqb (byteAt t (12 * k + 1) / 2) (number % 128) ≡ eqb (entryAt t k .number) number
+  unfolding entryAt entryOf
+  number-same h =
+      let r = b (12 * k + 2) in
+      let s = b (12 * k + 2 + 1) in
+      let o = b (12 * k + 1) in
+      eqb-iff (byteAt t (12 * k + 1) / 2) (number % 128) (doubleAt t (12 * k) / 131072) number (λ q. omega arith) (λ q. omega arith)
+
+  pub number-other : (byteAt t (12 * k) ≡ number / 128 → ⊥) → false ≡ eqb (entryAt t k .number) number
+  unfolding entryAt entryOf
+  number-other h =
+      let r = b (12 * k + 2) in
+      let s = b (12 * k + 2 + 1) in
+      let o = b (12 * k + 1) in
+      sym (ne-eqb (doubleAt t (12 * k) / 131072) number (λ q. h (omega arith)))
+
+-- a record by its twelve bytes
+pub record-is : (t : List ℕ) (k : ℕ)
+    → entryOf
+    (doubleOf (wordOf (byteAt t (12 * k)) (byteAt t (12 * k + 1))) (wordOf (byteAt t (12 * k + 2)) (byteAt t (12 * k + 3))))
+    (doubleOf (wordOf (byteAt t (12 * k + 4)) (byteAt t (12 * k + 5))) (wordOf (byteAt t (12 * k + 6)) (byteAt t (12 * k + 7))))
+    (doubleOf (wordOf (byteAt t (12 * k + 8)) (byteAt t (12 * k + 9))) (wordOf (byteAt t (12 * k + 10)) (byteAt t (12 * k + 11))))
+    ≡ entryAt t k
+unfolding entryAt
+record-is t k =
+    let a = 12 * k in
+    let e : a + 2 + 1 ≡ a + 3 = omega arith in
+    let f : (a + 4 + 1 ≡ a + 5) × (a + 4 + 2 + 1 ≡ a + 7) × (a + 4 + 2 ≡ a + 6) = (omega arith, omega arith, omega arith) in
+    let g : (a + 8 + 1 ≡ a + 9) × (a + 8 + 2 + 1 ≡ a + 11) × (a + 8 + 2 ≡ a + 10) = (omega arith, omega arith, omega arith) in
+    rw (e, f .0, f .1, f .2, g .0, g .1, g .2)
+
+-- its places by the lower word of its first 32 bits
+pub count-is : (t : List ℕ) (k : ℕ) → Bytes t → countOf (entryOf (wordOf (byteAt t (12 * k + 2)) (byteAt t (12 * k + 3))) 0 0) ≡ countOf (entryAt t k)
+unfolding countOf entryOf entryAt
+count-is t k b =
+    let e : 12 * k + 2 + 1 ≡ 12 * k + 3 = omega arith in
+    let low = wordOf (byteAt t (12 * k + 2)) (byteAt t (12 * k + 3)) in
+    let f : doubleOf (wordOf (byteAt t (12 * k)) (byteAt t (12 * k + 1))) low / 64 % 256 ≡ low / 64 % 256 = omega arith in
+    rw (e, f)
 
 pub count-at-le : (t : List ℕ) (k : ℕ) → countOf (entryAt t k) ≤ 255
 unfolding entryAt
@@ -99,3 +140,15 @@ places-fit t n k h =
     let s = rw (← e, zero-add) at (counts-split t k (n - k) 0) in
     let m = ap countsOf (entries-step t n k h) ∙ counts-more (entryAt t k) (entriesFrom t (n - (k + 1)) (k + 1)) in
     omega arith
+
+-- where there are no more places than records, each takes one
+counts-least : (t : List ℕ) (n j : ℕ) → n ≤ countsOf (entriesFrom t n j)
+unfolding countsOf entriesFrom
+counts-least t zero j = omega arith
+counts-least t (suc n) j = omega (arith, count-ge (entryAt t j), counts-least t n (suc j))
+
+pub one-each : (t : List ℕ) (n k : ℕ) → k ≤ n → countsOf (entriesFrom t n 0) ≤ n → k ≡ countsOf (entriesFrom t k 0)
+one-each t n k h c =
+    let e : n ≡ k + (n - k) = omega arith in
+    let s = rw (← e, zero-add) at (counts-split t k (n - k) 0) in
+    omega (arith, counts-least t k 0, counts-least t (n - k) k)

@@ -1,13 +1,15 @@
 -- `opening::check_content` meets its contract. Assumes nothing.
-use mathlib.Core.Path.{sym}
+use mathlib.Core.Path.{sym, _∙_}
+use native.Mathlib.Omega.{arith}
 use denote.Ref.{now}
-use Rattle.opening.proofs.PassLaws.{part-content, long-content}
+use Rattle.opening.proofs.PassLaws.{content-passed, content-values, content-table, part-content, long-content}
 use borrow.Author.Needs.{needs}
 use Rattle.opening.proofs.check_content.Statement.{statement}
 use Rattle.opening.proofs.check_content.Tie as tie
 use Rattle.opening.proofs.check_content.Reads as reads
 use Rattle.opening.proofs.check_content.Lts as lts
-use Rattle.opening.proofs.walk.Reads as walk-reads
+use Rattle.opening.proofs.in_order.Reads as in-order-reads
+use Rattle.opening.proofs.table_ok.Reads as table-ok-reads
 
 -- src/lib.rt:92:9
 returns : tie.Need-returns
@@ -22,16 +24,33 @@ returns-2 c =
     sym (long-content (now (a .t)) (now (a .values)) (c .before .if1 .left) (c .if2 .taken))
 
 -- src/lib.rt:98:21
-cast-walk : tie.Need-cast-walk
-cast-walk c = search needs
+in-order-requires : tie.Need-in-order-requires
+in-order-requires c κs = omega arith
 
 -- src/lib.rt:98:5
-walk-requires : tie.Need-walk-requires
-walk-requires c κs = search needs
-
--- src/lib.rt:88:1
 returns-3 : tie.Need-returns-3
-returns-3 c = search needs
+returns-3 c =
+    let o = c .before in
+    let a = o .before .before .before .before .before .args in
+    sym (content-passed (now (a .t)) (now (a .values)) (sym (o .in-order .ensures) ∙ c .if3 .taken))
+
+table-ok-requires : tie.Need-table-ok-requires
+table-ok-requires c κs = omega arith
+
+returns-4 : tie.Need-returns-4
+returns-4 c =
+    let k = c .before in
+    let o = k .before .before in
+    let a = o .before .before .before .before .before .args in
+    sym (content-values (now (a .t)) (now (a .values)) (sym (o .in-order .ensures) ∙ k .before .if3 .left) (sym (k .table-ok .ensures) ∙ c .if4 .taken))
+
+returns-5 : tie.Need-returns-5
+returns-5 c =
+    let k = c .before in
+    let o = k .before .before in
+    let a = o .before .before .before .before .before .args in
+    sym (content-table (now (a .t)) (now (a .values)) (sym (o .in-order .ensures) ∙ k .before .if3 .left) (sym (k .table-ok .ensures) ∙ c .if4 .left))
 
 pub check-content-spec : {M : Type 1} → statement M
-check-content-spec = tie.close (tie.spec returns returns-2 cast-walk walk-requires returns-3)
+check-content-spec =
+    tie.close (tie.spec returns returns-2 in-order-requires returns-3 table-ok-requires returns-4 returns-5)

@@ -9,18 +9,18 @@ use Rattle.task.specs.declared.Task.{Task}
 use Rattle.task.specs.Page.{fullNumber}
 use Rattle.task.proofs.TaskLaws.{reply-small}
 use Rattle.slave.specs.Perform.{idle, performTask, performOf}
-use Rattle.slave.proofs.PerformLaws.{found-few, found-fits, task-idle, task-unnamed, task-found}
+use Rattle.slave.proofs.PerformLaws.{found-whole, found-fits, task-idle, task-unnamed, task-found}
 use borrow.Author.Needs.{needs}
 use Rattle.slave.proofs.perform.Statement.{statement}
 use Rattle.slave.proofs.perform.Tie as tie
 use Rattle.slave.proofs.perform.Reads as reads
 use Rattle.slave.proofs.perform.Lts as lts
+use Rattle.slave.proofs.first_place.Reads as first-place-reads
 use Rattle.slave.proofs.is_idle.Reads as is-idle-reads
 use Rattle.slave.proofs.perform_on.Reads as perform-on-reads
+use Rattle.slave.proofs.read_record.Reads as read-record-reads
 use Rattle.slave.proofs.reply_area.Reads as reply-area-reads
-use Rattle.table.proofs.entry_at.Reads as entry-at-reads
 use Rattle.table.proofs.find.Reads as find-reads
-use Rattle.table.proofs.first_place.Reads as first-place-reads
 use Rattle.task.proofs.full_number.Reads as full-number-reads
 use Rattle.task.proofs.task_of.Reads as task-of-reads
 
@@ -85,33 +85,30 @@ enum-told c = search needs
 reply-area-requires-2 : tie.Need-reply-area-requires-2
 reply-area-requires-2 c κs = search needs
 
--- src/lib.rt:190:19
-enum-known-place : tie.Need-enum-known-place
-enum-known-place c = search needs
+-- src/lib.rt:268:19
+enum-known-k : tie.Need-enum-known-k
+enum-known-k c = search needs
 
--- src/lib.rt:191:21
-cast-k : tie.Need-cast-k
-cast-k c =
-    let f = c .before .before .before in
-    let a = f .before .before .before .before .before .before .before .before .before .before in
-    omega (arith, found-few (a .args .table .now) _ _ (a .pre .0) (found f ∙ c .before .place .given .1))
+-- src/lib.rt:269:17
+read-record-requires : tie.Need-read-record-requires
+read-record-requires c κs = let f = c .before .before .before in found-whole _ _ _ (found f ∙ c .before .k .given .1)
 
--- src/lib.rt:192:17
-entry-at-requires : tie.Need-entry-at-requires
-entry-at-requires c κs = search needs
-
--- src/lib.rt:193:17
+-- src/lib.rt:270:17
 first-place-requires : tie.Need-first-place-requires
-first-place-requires c κs = search needs
+first-place-requires c κs =
+    let f = c .before .before .before .before in
+    let a = f .before .before .before .before .before .before .before .before .before .before in
+    let h = found-whole (a .args .table .now) _ _ (found f ∙ c .before .before .k .given .1) in
+    (omega arith, omega (arith, a .pre .0), a .pre .1)
 
--- src/lib.rt:194:13
+-- src/lib.rt:271:13
 perform-on-requires : tie.Need-perform-on-requires
 perform-on-requires c κs =
     let f = c .before .before .before .before .before .before in
     let a = f .before .before .before .before .before .before .before .before .before .before in
-    let e = found f ∙ c .before .before .before .before .place .given .1 in (
+    let e = found f ∙ c .before .before .before .before .k .given .1 in (
       rw (f .before .before .before .before .before .before .task-of .ensures) (omega (arith, reply-small (a .args .area .pke / 4096))),
-      rw (c .before .before .entry-at .ensures, c .before .first-place .ensures) (omega (arith, found-fits (a .args .table .now) _ _ e, a .pre .1)),
+      rw (c .before .before .read-record .ensures, c .before .first-place .ensures) (omega (arith, found-fits (a .args .table .now) _ _ e, a .pre .1)),
     )
 
 -- src/lib.rt:170:1
@@ -136,8 +133,8 @@ returns-4 c =
     let d = f .before .before .before .before .before .before in
     let a = d .before .before .before .before .args in
     rw (
-      performed d ∙ task-found (a .n) (d .task-of .result) (a .table .now) (a .values .now) (a .area) _ (busy (f .before .before .before .before)) (f .before .before .if2 .left) (found f ∙ g .before .before .before .place .given .1),
-      ← (g .before .entry-at .ensures),
+      performed d ∙ task-found (a .n) (d .task-of .result) (a .table .now) (a .values .now) (a .area) _ (busy (f .before .before .before .before)) (f .before .before .if2 .left) (found f ∙ g .before .before .before .k .given .1),
+      ← (g .before .read-record .ensures),
       ← (g .first-place .ensures),
     )
     (q .perform-on .ensures)
@@ -156,9 +153,8 @@ perform-spec =
     find-requires
     enum-told
     reply-area-requires-2
-    enum-known-place
-    cast-k
-    entry-at-requires
+    enum-known-k
+    read-record-requires
     first-place-requires
     perform-on-requires
     returns-3

@@ -1,14 +1,14 @@
 -- `slave::perform_on` meets its contract: the verdict, then the error or the act. Assumes nothing.
 use mathlib.Core.Path.{_≡_, refl, sym, ap, _∙_}
 use Rattle.slave.specs.Perform.{verdictFor}
-use Rattle.slave.proofs.PerformLaws.{task-denied, task-granted, granted-place}
+use Rattle.slave.proofs.PerformLaws.{verdict-inside, task-denied, task-granted, granted-place}
 use borrow.Author.Needs.{needs}
 use Rattle.slave.proofs.perform_on.Statement.{statement}
 use Rattle.slave.proofs.perform_on.Tie as tie
 use Rattle.slave.proofs.perform_on.Reads as reads
 use Rattle.slave.proofs.perform_on.Lts as lts
-use Rattle.entry.proofs.within.Reads as within-reads
 use Rattle.slave.proofs.carry.Reads as carry-reads
+use Rattle.slave.proofs.is_inside.Reads as is-inside-reads
 use Rattle.slave.proofs.reply_area.Reads as reply-area-reads
 use Rattle.slave.proofs.run_act.Reads as run-act-reads
 use Rattle.task.proofs.judge.Reads as judge-reads
@@ -16,7 +16,7 @@ use Rattle.task.proofs.number_error.Reads as number-error-reads
 use Rattle.task.proofs.pick_element.Reads as pick-element-reads
 
 verdict : (c : tie.After-judge) → (let a = c .before .before .before .before .before .args in c .judge .result ≡ verdictFor (a .n) (a .task) (a .area) (a .e))
-verdict c = c .judge .ensures ∙ rw (c .before .within .ensures, c .before .before .carry .ensures)
+verdict c = c .judge .ensures ∙ rw (c .before .is-inside .ensures, c .before .before .carry .ensures) (verdict-inside _ _ _ _ _ _ _ _ _)
 
 -- src/lib.rt:138:17
 cast-index : tie.Need-cast-index
@@ -27,8 +27,8 @@ carry-requires : tie.Need-carry-requires
 carry-requires c κs = search needs
 
 -- src/lib.rt:140:9
-within-requires : tie.Need-within-requires
-within-requires c κs = search needs
+is-inside-requires : tie.Need-is-inside-requires
+is-inside-requires c κs = search needs
 
 -- src/lib.rt:141:9
 judge-requires : tie.Need-judge-requires
@@ -103,7 +103,7 @@ perform-on-spec =
     (tie.spec
     cast-index
     carry-requires
-    within-requires
+    is-inside-requires
     judge-requires
     enum-known-verdict
     number-error-requires

@@ -3,6 +3,7 @@ use Prim.Native.Nat.{_≤_, _-_}
 use mathlib.Core.Path.{_≡_, sym, _∙_}
 use native.Mathlib.Nat.{sub-zero}
 use native.Mathlib.Omega.{arith}
+use borrow.Author.Tests.{eqb-true, eqb-false}
 use denote.Ref.{now}
 use Rattle.table.specs.Records.{entries, entriesFrom, findFrom}
 use Rattle.table.proofs.RecordsLaws.{entries-step, entries-end, find-here, find-on, find-none}
@@ -10,7 +11,7 @@ use Rattle.table.proofs.find.Statement.{statement}
 use Rattle.table.proofs.find.Tie as tie
 use Rattle.table.proofs.find.Reads as reads
 use Rattle.table.proofs.find.Lts as lts
-use Rattle.table.proofs.number_at.Reads as number-at-reads
+use Rattle.table.proofs.has_number.Reads as has-number-reads
 
 abbrev Inv-loop : tie.InvT-loop
 Inv-loop t number n k₀ k = (k ≤ n) × (findFrom number (entriesFrom t n 0) 0 ≡ findFrom number (entriesFrom t (n - k) k) k)
@@ -23,8 +24,8 @@ loop-holds : tie.Need-loop-holds Inv-loop μ-loop
 loop-holds c = (omega arith, rw sub-zero)
 
 -- src/lib.rt:50:12
-number-at-requires : tie.Need-number-at-requires Inv-loop μ-loop
-number-at-requires c κs = omega arith
+has-number-requires : tie.Need-has-number-requires Inv-loop μ-loop
+has-number-requires c κs = omega arith
 
 -- src/lib.rt:53:9
 add-k : tie.Need-add-k Inv-loop μ-loop
@@ -40,7 +41,7 @@ loop-again c =
     let e = c .before .before in
     let l = e .before in
     let t = now (l .before .before .args .t) in
-    (omega arith, l .loop .inv .1 ∙ rw (entries-step t _ (l .loop .k) (e .if1 .left)) (find-on _ _ _ _ (λ q. c .if2 .left (c .before .number-at .ensures ∙ q))))
+    (omega arith, l .loop .inv .1 ∙ rw (entries-step t _ (l .loop .k) (e .if1 .left)) (find-on _ _ _ _ (eqb-false _ _ (sym (c .before .has-number .ensures) ∙ c .if2 .left))))
 
 -- src/lib.rt:41:1
 returns : tie.Need-returns Inv-loop μ-loop
@@ -54,7 +55,7 @@ returns-2 c =
     let e = c .before .before in
     let l = e .before in
     let t = now (l .before .before .args .t) in
-    sym (l .loop .inv .1 ∙ rw (entries-step t _ (l .loop .k) (e .if1 .left)) (find-here _ _ _ _ (sym (c .before .number-at .ensures) ∙ c .if2 .taken)))
+    sym (l .loop .inv .1 ∙ rw (entries-step t _ (l .loop .k) (e .if1 .left)) (find-here _ _ _ _ (eqb-true _ _ (sym (c .before .has-number .ensures) ∙ c .if2 .taken))))
 
 pub find-spec : {M : Type 1} → statement M
 find-spec =
@@ -63,7 +64,7 @@ find-spec =
     Inv-loop
     μ-loop
     loop-holds
-    number-at-requires
+    has-number-requires
     add-k
     loop-less
     loop-again

@@ -1,17 +1,16 @@
--- `table::first_place` meets its contract. Assumes nothing.
+-- `slave::sum_places` meets its contract. Assumes nothing.
 use Prim.Native.Nat.{_≤_, _+_, _-_, _*_}
 use mathlib.Core.Path.{_≡_, ap, _∙_}
 use native.Mathlib.Nat.{sub-zero}
 use native.Mathlib.Omega.{arith}
-use borrow.Author.Needs.{needs}
 use denote.Ref.{now}
 use Rattle.table.specs.Records.{entriesFrom, countsOf}
 use Rattle.table.proofs.RecordsLaws.{entries-step, entries-end, counts-none, counts-more, count-at-le}
-use Rattle.table.proofs.first_place.Statement.{statement}
-use Rattle.table.proofs.first_place.Tie as tie
-use Rattle.table.proofs.first_place.Reads as reads
-use Rattle.table.proofs.first_place.Lts as lts
-use Rattle.table.proofs.count_at.Reads as count-at-reads
+use Rattle.slave.proofs.sum_places.Statement.{statement}
+use Rattle.slave.proofs.sum_places.Tie as tie
+use Rattle.slave.proofs.sum_places.Reads as reads
+use Rattle.slave.proofs.sum_places.Lts as lts
+use Rattle.slave.proofs.count_at.Reads as count-at-reads
 
 abbrev Inv-loop : tie.InvT-loop
 Inv-loop t k sum₀ i₀ sum i =
@@ -26,7 +25,7 @@ loop-holds c = (omega arith, omega arith, rw sub-zero (omega arith))
 
 -- src/lib.rt:72:16
 count-at-requires : tie.Need-count-at-requires Inv-loop μ-loop
-count-at-requires c κs = search needs
+count-at-requires c κs = omega arith
 
 -- src/lib.rt:72:9
 add-sum : tie.Need-add-sum Inv-loop μ-loop
@@ -59,8 +58,8 @@ returns c =
     let e = ap countsOf (entries-end (now (a .t)) (a .k) (c .before .loop .i) (c .loop-test .left)) ∙ counts-none in
     omega arith
 
-pub first-place-spec : {M : Type 1} → statement M
-first-place-spec =
+pub sum-places-spec : {M : Type 1} → statement M
+sum-places-spec =
     tie.close
     (tie.spec
     Inv-loop

@@ -1,0 +1,131 @@
+-- `opening::table_ok` meets its contract. Assumes nothing.
+use Prim.Native.Nat.{_+_, _-_, _*_, _≤_}
+use mathlib.Core.Path.{_≡_, sym, ap, _∙_}
+use mathlib.Core.List.{List, [], _∷_}
+use native.Mathlib.Nat.{sub-zero}
+use native.Mathlib.Omega.{arith}
+use borrow.Author.Needs.{needs}
+use borrow.Author.Tests.{not-true, not-false}
+use denote.Ref.{now}
+use Rattle.entry.specs.declared.Entry.{Entry}
+use Rattle.entry.specs.Fields.{countOf}
+use Rattle.entry.proofs.LimitsLaws.{ruled}
+use Rattle.table.specs.Records.{entriesFrom}
+use Rattle.table.proofs.RecordsLaws.{entries-step, entries-end, count-at-le}
+use Rattle.opening.specs.Rules.{tableOk}
+use Rattle.opening.proofs.PassLaws.{ruledFrom, rule-all, rule-low, rule-broken, rule-on, rule-end}
+use Rattle.opening.proofs.table_ok.Statement.{statement}
+use Rattle.opening.proofs.table_ok.Tie as tie
+use Rattle.opening.proofs.table_ok.Reads as reads
+use Rattle.opening.proofs.table_ok.Lts as lts
+use Rattle.entry.proofs.count_places.Reads as count-places-reads
+use Rattle.entry.proofs.entry_ok.Reads as entry-ok-reads
+use Rattle.opening.proofs.read_record.Reads as read-record-reads
+
+abbrev Inv-loop : tie.InvT-loop
+Inv-loop t n least₀ place₀ k₀ least place k = (k ≤ n) × (place ≤ 255 * k) × (tableOk t ≡ ruledFrom (entriesFrom t (n - k) k) least place)
+
+abbrev μ-loop : tie.MeasureT-loop
+μ-loop t n least₀ place₀ k₀ least place k = n - k
+
+-- the record that was read is the next of the pass
+left : (c : tie.After-read-record Inv-loop μ-loop) →
+    let l = c .before .before in
+    let a = l .before .before .args in
+    tableOk (now (a .t)) ≡ ruledFrom (c .read-record .result ∷ entriesFrom (now (a .t)) (a .n - (l .loop .k + 1)) (l .loop .k + 1)) (l .loop .least) (l .loop .place)
+left c =
+    let l = c .before .before in
+    let a = l .before .before .args in
+    let step = entries-step (now (a .t)) (a .n) (l .loop .k) (c .before .loop-test .taken) in
+    l .loop .inv .2 ∙ ap (λ (es : List Entry). ruledFrom es (l .loop .least) (l .loop .place)) step ∙ rw (c .read-record .ensures)
+
+-- its places are at most 255
+counted : (c : tie.After-count-places Inv-loop μ-loop) → c .count-places .result ≤ 255
+counted c =
+    let d = c .before .before .before .before .before .before in
+    let l = d .before .before in
+    let e = c .count-places .ensures ∙ ap countOf (d .read-record .ensures) in
+    omega (arith, count-at-le (now (l .before .before .args .t)) (l .loop .k))
+
+-- src/lib.rt:191:5
+loop-holds : tie.Need-loop-holds Inv-loop μ-loop
+loop-holds c =
+    let a = c .before .args in
+    (omega arith, omega arith, rw sub-zero (rule-all (now (a .t)) (a .n) (omega arith) (omega arith)))
+
+-- src/lib.rt:192:13
+read-record-requires : tie.Need-read-record-requires Inv-loop μ-loop
+read-record-requires c κs = omega arith
+
+-- src/lib.rt:194:13
+returns : tie.Need-returns Inv-loop μ-loop
+returns c = sym (left (c .before .before) ∙ rule-low _ _ _ _ (c .if1 .taken))
+
+-- src/lib.rt:196:13
+entry-ok-requires : tie.Need-entry-ok-requires Inv-loop μ-loop
+entry-ok-requires c κs = search needs
+
+-- src/lib.rt:197:13
+returns-2 : tie.Need-returns-2 Inv-loop μ-loop
+returns-2 c =
+    let o = c .before in
+    sym (left (o .before .before .before) ∙ rule-broken _ _ _ _ (sym (o .entry-ok .ensures) ∙ not-true _ (c .if2 .taken)))
+
+-- src/lib.rt:199:17
+add-least : tie.Need-add-least Inv-loop μ-loop
+add-least c =
+    let o = c .before .before in
+    let f = ruled _ (sym (o .entry-ok .ensures) ∙ not-false _ (c .before .if2 .left)) in
+    omega arith
+
+-- src/lib.rt:200:18
+count-places-requires : tie.Need-count-places-requires Inv-loop μ-loop
+count-places-requires c κs = search needs
+
+-- src/lib.rt:200:9
+add-place : tie.Need-add-place Inv-loop μ-loop
+add-place c = let h = counted c in omega arith
+
+-- src/lib.rt:201:9
+add-k : tie.Need-add-k Inv-loop μ-loop
+add-k c = omega arith
+
+-- src/lib.rt:191:5
+loop-less : tie.Need-loop-less Inv-loop μ-loop
+loop-less c = omega arith
+
+-- src/lib.rt:191:5
+loop-again : tie.Need-loop-again Inv-loop μ-loop
+loop-again c =
+    let l = c .before .before in
+    let o = l .before in
+    let d = o .before .before .before in
+    let h = counted c in
+    let ok = sym (o .entry-ok .ensures) ∙ not-false _ (l .if2 .left) in
+    (omega arith, omega arith, left d ∙ rule-on _ _ _ _ (o .before .if1 .left) ok ∙ rw (← (c .count-places .ensures)))
+
+-- src/lib.rt:184:1
+returns-3 : tie.Need-returns-3 Inv-loop μ-loop
+returns-3 c =
+    let l = c .before in
+    let a = l .before .before .args in
+    sym (l .loop .inv .2 ∙ rw (entries-end (now (a .t)) (a .n) (l .loop .k) (c .loop-test .left)) (rule-end _ _))
+
+pub table-ok-spec : {M : Type 1} → statement M
+table-ok-spec =
+    tie.close
+    (tie.spec
+    Inv-loop
+    μ-loop
+    loop-holds
+    read-record-requires
+    returns
+    entry-ok-requires
+    returns-2
+    add-least
+    count-places-requires
+    add-place
+    add-k
+    loop-less
+    loop-again
+    returns-3)
