@@ -67,22 +67,23 @@ check-wrong t k n =
 pub sound : (t : List ℕ) → Framed t → frameOf t ≡ Sound (lastOf t)
 sound t f = check-right t (f .counted) (f .check)
 
--- ---- the same as the code reckons it: LGE + 1 is the place of BCC, and the XOR starts with the 02 and LGE already read
+-- ---- the same as the code reckons it: LGE + 1 is the place of BCC, and 02, LGE and ADR are mixed into the XOR of the net bytes
 
 pub last-counted : (t : List ℕ) → Counted t → byteAt t 1 + 1 ≡ lastOf t
 last-counted t k = omega arith
 
-two-first : (t : List ℕ) (m : ℕ) → 2 ≤ length t → xorAll (take (suc (suc m)) t) ≡ bitXor (byteAt t 0) (bitXor (byteAt t 1) (xorAll (take m (drop 2 t))))
+three-first : (t : List ℕ) (m : ℕ) → 3 ≤ length t → xorAll (take (suc (suc (suc m))) t) ≡ bitXor (byteAt t 0) (bitXor (byteAt t 1) (bitXor (byteAt t 2) (xorAll (take m (drop 3 t)))))
 unfolding xorAll
-two-first [] m h = absurd (omega arith)
-two-first (x ∷ []) m h = absurd (omega arith)
-two-first (x ∷ y ∷ t) m h = refl
+three-first [] m h = absurd (omega arith)
+three-first (x ∷ []) m h = absurd (omega arith)
+three-first (x ∷ y ∷ []) m h = absurd (omega arith)
+three-first (x ∷ y ∷ z ∷ t) m h = refl
 
--- the XOR of the bytes from ADR to before BCC
+-- the XOR of the net bytes
 abbrev pub restOf : List ℕ → ℕ
-restOf t = xorAll (take (byteAt t 1 + 1 - 2) (drop 2 t))
+restOf t = xorAll (take (byteAt t 1 + 1 - 3) (drop 3 t))
 
-pub reckoned : (t : List ℕ) → Counted t → bitXor 2 (bitXor (byteAt t 1) (restOf t)) ≡ xorAll (take (lastOf t) t)
+pub reckoned : (t : List ℕ) → Counted t → bitXor 2 (bitXor (byteAt t 1) (bitXor (byteAt t 2) (restOf t))) ≡ xorAll (take (lastOf t) t)
 reckoned t k =
-    let e : suc (suc (byteAt t 1 + 1 - 2)) ≡ lastOf t = omega arith in
-    sym (rw (← e, two-first t (byteAt t 1 + 1 - 2) (omega arith), k .start))
+    let e : suc (suc (suc (byteAt t 1 + 1 - 3))) ≡ lastOf t = omega arith in
+    sym (rw (← e, three-first t (byteAt t 1 + 1 - 3) (omega arith), k .start))

@@ -62,7 +62,7 @@ pub fn bcc(bytes: &[u8]) -> u8
 }
 
 // The frame check: 10 to 14, in the document's order. LGE is used only after the byte count is found to agree with it,
-// and each byte is read once: the first two are known when the XOR is taken.
+// and each byte is read once: the XOR goes over the net bytes, and the three bytes before them are mixed in.
 pub fn check(received: &[u8]) -> FrameCheck
     ensures { λ r. ⌜ r ≡ frameOf (now (received .entry)) ⌝ }
 {
@@ -85,8 +85,8 @@ pub fn check(received: &[u8]) -> FrameCheck
         return FrameCheck::Broken(FrameFault::Count);
     }
     let last = lge + 1;
-    let rest = bcc(&received[2..last]);
-    if received[last] != 2 ^ (second ^ rest) {
+    let rest = bcc(&received[3..last]);
+    if received[last] != 2 ^ (second ^ (received[2] ^ rest)) {
         return FrameCheck::Broken(FrameFault::Check);
     }
     FrameCheck::Sound { net_end: last }

@@ -10,7 +10,7 @@ use lib.ListN.{length, getD, take, length-append, List·getD-append}
 use lib.Seq.{getD-append-add, getD-take, length-take-le}
 use borrow.Author.Tests.{ltb-true}
 use Rattle.frame.specs.Bcc.{xorAll}
-use Rattle.words.specs.Words.{wordAt}
+use Rattle.words.specs.Words.{wordAt, doubleAt, doubleOf, Bytes}
 use Rattle.words.specs.declared.Words.{Words}
 use Rattle.net.specs.declared.Area.{Area}
 use Rattle.net.specs.Telegram.{bodyOf, telegramOf}
@@ -96,6 +96,17 @@ value-back (suc (suc zero)) v t s f h =
     let b : wordAt t 9 ≡ v % 65536 = h 1 (lit< tt) in
     omega arith
 value-back (suc (suc (suc n))) v t s f h = absurd (omega arith)
+
+-- a value over two words and more is that of the last two
+pub value-last : (t : List ℕ) (n : ℕ) → Bytes t → 2 ≤ n → valueAt t n ≡ doubleAt t (n * 2 + 3)
+unfolding valueAt
+value-last t zero h two = absurd (omega arith)
+value-last t (suc zero) h two = absurd (omega arith)
+value-last t (suc (suc n)) h two =
+    let e : suc n * 2 + 7 ≡ suc (suc n) * 2 + 3 + 2 = omega arith in
+    let f : n * 2 + 7 ≡ suc (suc n) * 2 + 3 = omega arith in
+    let p = suc (suc n) * 2 + 3 in
+    rw (e, f) (ap (λ (x : ℕ). doubleOf x (wordAt t (p + 2))) (omega (arith, h p, h (p + 1))))
 
 module _ (adr : ℕ) (a : Area) (n : ℕ) (w : Words) (pzd : ℕ) where
   words-of : List ℕ

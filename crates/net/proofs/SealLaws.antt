@@ -6,6 +6,7 @@ use native.Mathlib.Numerals.{add-three}
 use native.Mathlib.Omega.{arith}
 use lib.ListN.{length, getD, take, drop, set, length-append, length-drop}
 use lib.Seq.{getD-at, take-at, set-split, sets-eq, drop-drop, length-take-le}
+use lib.Bits.{bitXor}
 use Rattle.frame.specs.Bcc.{xorAll}
 use Rattle.frame.specs.Frame.{frameOf, lastOf}
 use Rattle.frame.specs.declared.FrameCheck.the-variants.{Sound}
@@ -60,19 +61,24 @@ module _ (out : List ℕ) (adr n : ℕ) (room : 256 ≤ length out) (fits : n �
   body-is =
       ap (λ (k : ℕ). 2 ∷ (k + 2) ∷ adr ∷ take n (drop 3 out)) (length-take-le n (drop 3 out) (simp length-drop (omega arith)))
 
-  taken-is : take (n + 3) started ≡ bodyOf adr (take n (drop 3 out))
-  taken-is =
-      let e : take (n + 3) (headed (drop 3 out)) ≡ headed (take n (drop 3 out)) = rw add-three in
-      ap (λ (l : List ℕ). take (n + 3) l) started-is ∙ e ∙ sym body-is
+  -- the check byte as the code reckons it: 02, LGE and ADR, and the XOR of the net bytes
+  abbrev pub reckoned : ℕ
+  reckoned = bitXor 2 (bitXor (n + 2) (bitXor adr (xorAll (take (n + 3 - 3) (drop 3 started)))))
 
-  pub written : set started (n + 3) (xorAll (take (n + 3) started)) ≡ telegramOf adr (take n (drop 3 out)) ++ drop (n + 4) out
+  reckoned-is : reckoned ≡ xorAll (bodyOf adr (take n (drop 3 out)))
+  unfolding xorAll
+  reckoned-is =
+      let e : n + 3 - 3 ≡ n = omega arith in
+      rw (e, started-is) (ap xorAll (sym body-is))
+
+  pub written : set started (n + 3) reckoned ≡ telegramOf adr (take n (drop 3 out)) ++ drop (n + 4) out
   written =
       let s = xorAll (bodyOf adr (take n (drop 3 out))) in
       let e : set (headed (drop 3 out)) (n + 3) s ≡ headed (take n (drop 3 out)) ++ s ∷ drop (suc n) (drop 3 out) =
       rw add-three (ap headed (set-split (drop 3 out) n s (simp length-drop (omega arith)))) in
       let place : 3 + suc n ≡ n + 4 = omega arith in
       let rest : drop (suc n) (drop 3 out) ≡ drop (n + 4) out = drop-drop (suc n) 3 out ∙ ap (λ (k : ℕ). drop k out) place in
-      ap (λ (l : List ℕ). set started (n + 3) (xorAll l)) taken-is ∙ ap (λ (l : List ℕ). set l (n + 3) s) started-is ∙ e
+      ap (λ (b : ℕ). set started (n + 3) b) reckoned-is ∙ ap (λ (l : List ℕ). set l (n + 3) s) started-is ∙ e
       ∙ ap (λ (l : List ℕ). headed (take n (drop 3 out)) ++ s ∷ l) rest
       ∙ ap (λ (l : List ℕ). l ++ s ∷ drop (n + 4) out) (sym body-is)
       ∙ sym (append-assoc (bodyOf adr (take n (drop 3 out))) (s ∷ []) (drop (n + 4) out))

@@ -92,12 +92,13 @@ pub fn seal(out: &mut [u8], adr: u8, n: usize) -> usize
     if 256 <= out.len() {
         if 1 <= n {
             if n <= 252 {
+                let lge = (n + 2) as u8;
                 out[0] = 2;
-                out[1] = (n + 2) as u8;
+                out[1] = lge;
                 out[2] = adr;
                 let last = n + 3;
-                let sum = frame::bcc(&out[..last]);
-                out[last] = sum;
+                let rest = frame::bcc(&out[3..last]);
+                out[last] = 2 ^ (lge ^ (adr ^ rest));
                 return last + 1;
             }
         }
@@ -128,19 +129,20 @@ pub fn write_normal(out: &mut [u8], adr: u8, area: Area, n: u8, process: Words, 
     seal(out, adr, count + (pzd as usize) * 2)
 }
 
-// The value over `count` words from place 7 on, high word first.
+// The value over `count` words from place 7 on, high word first. Of more than two words the last two are left.
 fn read_value(t: &[u8], count: u8) -> u32
     ensures { λ r. ⌜ r ≡ valueAt (now (t .entry)) count ⌝ }
 {
-    let n = count as usize;
-    let mut value: u32 = 0;
-    let mut i = 0;
-    while i < n {
-        let low = words::word_at(t, i * 2 + 7);
-        value = words::join_double((value % 65536) as u16, low);
-        i += 1;
+    if count == 0 {
+        return 0;
     }
-    value
+    if count == 1 {
+        return words::word_at(t, 7) as u32;
+    }
+    if count == 2 {
+        return words::double_at(t, 7);
+    }
+    words::double_at(t, (count as usize) * 2 + 3)
 }
 
 // The parameter area of n words at the place of the first net byte.

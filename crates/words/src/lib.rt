@@ -36,10 +36,14 @@ pub fn byte_at(t: &[u8], at: usize) -> u8
 pub fn word_at(t: &[u8], at: usize) -> u16
     ensures { λ r. ⌜ r ≡ wordAt (now (t .entry)) at ⌝ }
 {
-    if at < t.len() {
-        let high = t[at];
-        let low = byte_at(t, at + 1);
-        return join(high, low);
+    let n = t.len();
+    if 2 <= n {
+        if at <= n - 2 {
+            return join(t[at], t[at + 1]);
+        }
+    }
+    if at < n {
+        return join(t[at], 0);
     }
     0
 }

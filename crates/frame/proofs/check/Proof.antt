@@ -76,6 +76,10 @@ bcc-requires c κs = search needs
 shared-slice-read-if6 : tie.Need-shared-slice-read-if6
 shared-slice-read-if6 c = search needs
 
+-- src/lib.rt:89:41
+shared-slice-read-if6-2 : tie.Need-shared-slice-read-if6-2
+shared-slice-read-if6-2 c = search needs
+
 counted : (c : tie.After-bcc) → Counted (c .before .before .before .before .before .before .before .before .before .before .args .received .now)
 counted c =
     let d = c .before .before in
@@ -90,7 +94,7 @@ counted c =
 -- src/lib.rt:90:9
 returns-6 : tie.Need-returns-6
 returns-6 c =
-    let b = c .before .before in
+    let b = c .before .before .before in
     let k = counted b in
     let e = last-counted _ k in
     sym (check-wrong _ k (λ w. c .if6 .taken (rw (e, b .bcc .ensures) (w ∙ sym (reckoned _ k)))))
@@ -98,7 +102,7 @@ returns-6 c =
 -- src/lib.rt:66:1
 returns-7 : tie.Need-returns-7
 returns-7 c =
-    let b = c .before .before in
+    let b = c .before .before .before in
     let k = counted b in
     let e = last-counted _ k in
     rw e (sym (check-right _ k (rw (e, b .bcc .ensures) at (c .if6 .left) ∙ reckoned _ k)))
@@ -122,5 +126,6 @@ check-spec =
     part-bcc-end
     bcc-requires
     shared-slice-read-if6
+    shared-slice-read-if6-2
     returns-6
     returns-7)

@@ -1,82 +1,73 @@
--- `net::read_value` meets its contract: after i turns the value is that over i words. Assumes nothing.
-use mathlib.Core.Path.{_≡_, refl, sym, ap, _∙_}
-use Prim.Native.Nat.{_≤_, _-_}
+-- `net::read_value` meets its contract. Assumes nothing.
+use mathlib.Core.Path.{sym, _∙_}
 use native.Mathlib.Omega.{arith}
-use native.Mathlib.Numerals.{add-one}
-use borrow.Author.Needs.{needs}
 use Rattle.net.specs.Read.{valueAt}
+use Rattle.net.proofs.ReadLaws.{value-last}
+use borrow.Author.Needs.{needs}
 use Rattle.net.proofs.read_value.Statement.{statement}
 use Rattle.net.proofs.read_value.Tie as tie
 use Rattle.net.proofs.read_value.Reads as reads
 use Rattle.net.proofs.read_value.Lts as lts
-use Rattle.words.proofs.join_double.Reads as join-double-reads
+use Rattle.words.proofs.double_at.Reads as double-at-reads
 use Rattle.words.proofs.word_at.Reads as word-at-reads
 
-abbrev Inv-loop : tie.InvT-loop
-Inv-loop t count n value₀ i₀ value i = (i ≤ n) × (value ≡ valueAt t i)
-
-abbrev μ-loop : tie.MeasureT-loop
-μ-loop t count n value₀ i₀ value i = n - i
-
--- src/lib.rt:138:5
-loop-holds : tie.Need-loop-holds Inv-loop μ-loop
+-- src/lib.rt:137:9
+returns : tie.Need-returns
 unfolding valueAt
-loop-holds c = (omega arith, refl)
+returns c = rw (c .if1 .taken)
 
--- src/lib.rt:139:37
-mul-word-at : tie.Need-mul-word-at Inv-loop μ-loop
-mul-word-at c = omega arith
-
--- src/lib.rt:139:37
-add-word-at : tie.Need-add-word-at Inv-loop μ-loop
-add-word-at c = omega arith
-
--- src/lib.rt:139:13
-word-at-requires : tie.Need-word-at-requires Inv-loop μ-loop
+-- src/lib.rt:140:16
+word-at-requires : tie.Need-word-at-requires
 word-at-requires c κs = search needs
 
--- src/lib.rt:140:36
-cast-join-double : tie.Need-cast-join-double Inv-loop μ-loop
-cast-join-double c = omega arith
+-- src/lib.rt:140:16
+cast-result : tie.Need-cast-result
+cast-result c = search needs
 
 -- src/lib.rt:140:9
-join-double-requires : tie.Need-join-double-requires Inv-loop μ-loop
-join-double-requires c κs = search needs
-
--- src/lib.rt:141:9
-add-i : tie.Need-add-i Inv-loop μ-loop
-add-i c = omega arith
-
--- src/lib.rt:138:5
-loop-less : tie.Need-loop-less Inv-loop μ-loop
-loop-less c = omega arith
-
--- src/lib.rt:138:5
-loop-again : tie.Need-loop-again Inv-loop μ-loop
+returns-2 : tie.Need-returns-2
 unfolding valueAt
-loop-again c =
-    let l = c .before .before .before .loop in
-    (omega arith, rw add-one (c .join-double .ensures ∙ rw (c .before .word-at .ensures, l .inv .1)))
+returns-2 c = rw (c .before .if2 .taken) (omega (arith, c .word-at .ensures))
 
--- src/lib.rt:132:1
-returns : tie.Need-returns Inv-loop μ-loop
-returns c =
-    let e : c .before .loop .i ≡ c .before .before .before .args .count = omega arith in
-    c .before .loop .inv .1 ∙ rw e
+-- src/lib.rt:143:16
+double-at-requires : tie.Need-double-at-requires
+double-at-requires c κs = search needs
+
+-- src/lib.rt:143:16
+returns-3 : tie.Need-returns-3
+returns-3 c =
+    let k = c .before .before .before .before in
+    rw (c .before .if3 .taken) (c .double-at .ensures ∙ sym (value-last _ 2 (λ i. k .shared-slice-known .given i .fits) (omega arith)))
+
+-- src/lib.rt:145:25
+mul-double-at : tie.Need-mul-double-at
+mul-double-at c = search needs
+
+-- src/lib.rt:145:25
+add-double-at : tie.Need-add-double-at
+add-double-at c = search needs
+
+-- src/lib.rt:145:5
+double-at-requires-2 : tie.Need-double-at-requires-2
+double-at-requires-2 c κs = search needs
+
+-- src/lib.rt:133:1
+returns-4 : tie.Need-returns-4
+returns-4 c =
+    let k = c .before .before .before .before in
+    c .double-at2 .ensures ∙ sym (value-last _ _ (λ i. k .shared-slice-known .given i .fits) (omega arith))
 
 pub read-value-spec : {M : Type 1} → statement M
 read-value-spec =
     tie.close
     (tie.spec
-    Inv-loop
-    μ-loop
-    loop-holds
-    mul-word-at
-    add-word-at
+    returns
     word-at-requires
-    cast-join-double
-    join-double-requires
-    add-i
-    loop-less
-    loop-again
-    returns)
+    cast-result
+    returns-2
+    double-at-requires
+    returns-3
+    mul-double-at
+    add-double-at
+    double-at-requires-2
+    returns-4)

@@ -1,39 +1,67 @@
 -- `words::word_at` meets its contract. Assumes nothing.
 use mathlib.Core.Path.{sym}
-use Rattle.words.proofs.WordsLaws.{word-past}
+use mathlib.Core.Logic.{⊎-elim}
+use Prim.Native.Nat.{_+_, _≤_}
+use native.Mathlib.Omega.{arith}
+use lib.ListN.{length}
+use Rattle.words.proofs.WordsLaws.{byte-past, word-past}
 use borrow.Author.Needs.{needs}
 use Rattle.words.proofs.word_at.Statement.{statement}
 use Rattle.words.proofs.word_at.Tie as tie
 use Rattle.words.proofs.word_at.Reads as reads
 use Rattle.words.proofs.word_at.Lts as lts
-use Rattle.words.proofs.byte_at.Reads as byte-at-reads
 use Rattle.words.proofs.join.Reads as join-reads
 
--- src/lib.rt:40:20
-shared-slice-read-high : tie.Need-shared-slice-read-high
-shared-slice-read-high c = search needs
+-- src/lib.rt:42:25
+shared-slice-read-join : tie.Need-shared-slice-read-join
+shared-slice-read-join c = search needs
 
--- src/lib.rt:41:30
-add-byte-at : tie.Need-add-byte-at
-add-byte-at c = search needs
+-- src/lib.rt:42:34
+add-join : tie.Need-add-join
+add-join c = search needs
 
--- src/lib.rt:41:13
-byte-at-requires : tie.Need-byte-at-requires
-byte-at-requires c κs = search needs
+-- src/lib.rt:42:32
+shared-slice-read-join-2 : tie.Need-shared-slice-read-join-2
+shared-slice-read-join-2 c = search needs
 
--- src/lib.rt:42:9
+-- src/lib.rt:42:13
 join-requires : tie.Need-join-requires
 join-requires c κs = search needs
 
--- src/lib.rt:42:9
+-- src/lib.rt:42:13
 returns : tie.Need-returns
 returns c = search needs
 
--- src/lib.rt:36:1
+-- src/lib.rt:46:21
+shared-slice-read-join-3 : tie.Need-shared-slice-read-join-3
+shared-slice-read-join-3 c = search needs
+
+-- src/lib.rt:46:9
+join-requires-2 : tie.Need-join-requires-2
+join-requires-2 c κs = search needs
+
+-- src/lib.rt:46:9
 returns-2 : tie.Need-returns-2
-returns-2 c = sym (word-past (c .before .before .args .t .now) _ (c .if1 .left))
+returns-2 c =
+    let j = c .before .before .before in
+    let a = j .before .before .args in
+    let past : length (a .t .now) ≤ a .at + 1 = ⊎-elim (λ w. omega arith) (λ w. omega arith) (j .if1 .came) in
+    omega (arith, c .join2 .ensures, byte-past (a .t .now) (a .at + 1) past)
+
+-- src/lib.rt:36:1
+returns-3 : tie.Need-returns-3
+returns-3 c = sym (word-past (c .before .before .before .args .t .now) _ (c .if3 .left))
 
 pub word-at-spec : {M : Type 1} → statement M
 word-at-spec =
     tie.close
-    (tie.spec shared-slice-read-high add-byte-at byte-at-requires join-requires returns returns-2)
+    (tie.spec
+    shared-slice-read-join
+    add-join
+    shared-slice-read-join-2
+    join-requires
+    returns
+    shared-slice-read-join-3
+    join-requires-2
+    returns-2
+    returns-3)
