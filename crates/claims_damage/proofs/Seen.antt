@@ -7,10 +7,9 @@
 --     second-hit       LGE hit: refused
 --     long-promise     16 bytes received and LGE reading 254: 13
 use mathlib.Core.Path.{_≡_, refl, sym, ap, _∙_}
-use mathlib.Core.Bool.{Bool, true, false}
-use mathlib.Core.List.{List, [], _∷_, _++_, zipWith}
+use mathlib.Core.List.{List, [], _∷_, _++_}
 use mathlib.Core.Logic.{_↔_}
-use Prim.Native.Nat.{ℕ, zero, suc, _+_, _-_, _*_, _/_, _%_, _^_, _≤_, _<_}
+use Prim.Native.Nat.{ℕ, suc, _+_, _*_, _/_, _%_, _^_, _≤_, _<_}
 use native.Mathlib.Nat.{zero-div}
 use native.Mathlib.Omega.{arith}
 use borrow.Author.Tests.{le-ltb, eq-eqb, ne-eqb}
@@ -18,7 +17,8 @@ use lib.Bits.{bitXor, xor-self, xor-zero-r}
 use lib.Dec.{lit≤}
 use lib.ListN.{length, take}
 use lib.Seq.{take-suc, take-length}
-use Rattle.words.specs.Words.{byteAt, Bytes}
+use Rattle.rows.specs.Bits.{bit}
+use Rattle.words.specs.Words.{byteAt}
 use Rattle.frame.specs.Bcc.{xorAll}
 use Rattle.frame.specs.Frame.{frameOf, lastOf, isSound, frameNumber}
 use Rattle.frame.specs.declared.FrameFault.{FrameFault}
@@ -26,8 +26,8 @@ use Rattle.frame.specs.declared.FrameFault.the-variants.{Short, Start, Length, 
 use Rattle.frame.specs.declared.FrameCheck.{FrameCheck}
 use Rattle.frame.specs.declared.FrameCheck.the-variants.{Sound, Broken}
 use Rattle.frame.proofs.XorLaws.{xor-snoc, xor-all-lt, xor-eq, xor-fix, length-zip, getD-zip, xor-zip}
-use Rattle.frame.proofs.FrameLaws.{Counted, Framed, framed, sound}
-use Rattle.claims_damage.specs.Damage.{damaged, Damage, bit, flips, Passes, Refuses, Unseen, Hit, OneByte, bitAt, Order, Burst}
+use Rattle.frame.proofs.FrameLaws.{framed, sound}
+use Rattle.claims_damage.specs.Damage.{damaged, Damage, flips, Passes, Refuses, Unseen, Hit, OneByte, bitAt, Order, Burst}
 use Rattle.claims_damage.proofs.Parity.{zero-digits, one-digit, digit-parity, single}
 
 -- ---- the check byte is right exactly where the XOR of the whole is 0
