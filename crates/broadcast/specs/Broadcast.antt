@@ -30,8 +30,8 @@ voidRows c pkw pzd first =
     ∷ (not (eqb (first / 1024 % 2) 1), true)
     ∷ (not (eqb (c .selector % 2) 0), true)
     ∷ (not (eqb (c .selector / 8) 0), true)
-    ∷ (not (eqb (c .fourth) 0), true)
     ∷ (selectsSecond (c .selector) && ltb pzd 2, true)
+    ∷ (not (eqb (c .fourth) 0), true)
     ∷ []
 
 unfoldable pub isVoid : Command → ℕ → ℕ → ℕ → Bool

@@ -1,4 +1,5 @@
 -- `broadcast::is_void` meets its contract: at each `return` the tests that led there pick the row. Assumes nothing.
+use mathlib.Core.Logic.{⊎-elim}
 use Rattle.rows.proofs.RowsLaws.{tests}
 use Rattle.broadcast.specs.Broadcast.{isVoid}
 use Rattle.broadcast.proofs.is_void.Statement.{statement}
@@ -41,25 +42,20 @@ returns-7 : tie.Need-returns-7
 unfolding isVoid
 returns-7 c = search tests
 
--- src/lib.rt:41:9
+-- src/lib.rt:42:13
 returns-8 : tie.Need-returns-8
 unfolding isVoid
 returns-8 c = search tests
 
--- src/lib.rt:45:13
+-- src/lib.rt:15:1
 returns-9 : tie.Need-returns-9
 unfolding isVoid
-returns-9 c = search tests
+returns-9 c = ⊎-elim (λ w. search tests) (λ w. search tests) (c .before .before .if8 .came)
 
 -- src/lib.rt:15:1
 returns-10 : tie.Need-returns-10
 unfolding isVoid
-returns-10 c = search tests
-
--- src/lib.rt:15:1
-returns-11 : tie.Need-returns-11
-unfolding isVoid
-returns-11 c = search tests
+returns-10 c = ⊎-elim (λ w. search tests) (λ w. search tests) (c .before .before .if8 .came)
 
 pub is-void-spec : {M : Type 1} → statement M
 is-void-spec =
@@ -74,5 +70,4 @@ is-void-spec =
     returns-7
     returns-8
     returns-9
-    returns-10
-    returns-11)
+    returns-10)

@@ -1,5 +1,5 @@
 -- `broadcast::merge` meets its contract. Assumes nothing.
-use mathlib.Core.Path.{_≡_, refl, sym, ap, _∙_}
+use mathlib.Core.Path.{refl}
 use Rattle.broadcast.specs.Broadcast.{mergeOf}
 use borrow.Author.Needs.{needs}
 use Rattle.broadcast.proofs.merge.Statement.{statement}
