@@ -1,5 +1,4 @@
 -- `task::lacks_array` meets its contract. Assumes nothing.
-use mathlib.Core.Path.{_≡_, refl, sym, ap, _∙_}
 use borrow.Author.Tests.{eq-eqb, ne-eqb}
 use borrow.Author.Needs.{needs}
 use Rattle.task.proofs.lacks_array.Statement.{statement}

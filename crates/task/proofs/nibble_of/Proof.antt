@@ -1,5 +1,5 @@
 -- `task::nibble_of` meets its contract. Assumes nothing.
-use mathlib.Core.Path.{_≡_, refl, sym, ap, _∙_}
+use mathlib.Core.Path.{refl, sym}
 use lib.ListN.{List·getD-eq-default}
 use Rattle.task.specs.Page.{nibbles, nibbleOf}
 use borrow.Author.Needs.{needs}

@@ -1,5 +1,5 @@
 -- `task::page_of` meets its contract. Assumes nothing.
-use mathlib.Core.Path.{_≡_, refl, sym, ap, _∙_}
+use mathlib.Core.Path.{refl}
 use Rattle.task.specs.Page.{pageOf}
 use borrow.Author.Needs.{needs}
 use Rattle.task.proofs.page_of.Statement.{statement}

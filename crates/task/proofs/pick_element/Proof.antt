@@ -1,5 +1,4 @@
 -- `task::pick_element` meets its contract. Assumes nothing.
-use mathlib.Core.Path.{_≡_, refl, sym, ap, _∙_}
 use borrow.Author.Tests.{eq-eqb, ne-eqb}
 use Rattle.task.specs.Verdict.{elementOf}
 use Rattle.task.proofs.pick_element.Statement.{statement}
