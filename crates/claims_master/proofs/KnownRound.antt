@@ -31,7 +31,7 @@ use Rattle.slave.specs.Slave.{taskDone, replyOf}
 use Rattle.reply.specs.declared.Reading.{Reading}
 use Rattle.reply.specs.declared.Content.the-variants.{Value, Failed}
 use Rattle.reply.specs.declared.ReadAnswer.the-variants.{Read}
-use Rattle.reply.specs.Reply.{knownId, misfit, otherEcho, badReply, contentOf, readNormal, readTask, readOf}
+use Rattle.reply.specs.Reply.{knownId, misfit, otherEcho, badReply, replyContent, readNormal, readTask, readOf}
 
 abbrev pub setup : Setup
 setup = record { node = 3; pkw = 4; pzd = 2 }
@@ -73,5 +73,5 @@ telegrams = refl
 
 -- and their readings
 pub readings : map (readOf setup request) (k3 ∷ k4 ∷ []) ≡ record { answer = Read (Value 1 5000); process = status } ∷ record { answer = Read (Failed 0); process = status } ∷ []
-unfolding readOf setupOk taskFits valueFits tasks taskOf unusedZero readTask frameOf xorAll addressOf readNormal areaAt valueAt processAt badReply knownId misfit otherEcho nibbleOf contentOf
+unfolding readOf setupOk taskFits valueFits tasks taskOf unusedZero readTask frameOf xorAll addressOf readNormal areaAt valueAt processAt badReply knownId misfit otherEcho nibbleOf replyContent
 readings = refl

@@ -1,8 +1,8 @@
 -- `reply::is_bad` meets its contract: the tests that led to a `return` pick its row. Assumes nothing.
-use mathlib.Core.Path.{_≡_, refl, sym, ap, _∙_}
+use mathlib.Core.Path.{_≡_, sym, _∙_}
 use mathlib.Core.Bool.{true, false, not}
 use Prim.Native.Nat.{_/_}
-use borrow.Author.Tests.{not-true, not-false, eq-eqb, ne-eqb, lt-ltb, le-ltb}
+use borrow.Author.Tests.{not-true, not-false, eq-eqb, ne-eqb}
 use Rattle.reply.specs.Reply.{knownId, badReply}
 use borrow.Author.Needs.{needs}
 use Rattle.reply.proofs.is_bad.Statement.{statement}

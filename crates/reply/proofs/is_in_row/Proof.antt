@@ -1,5 +1,4 @@
 -- `reply::is_in_row` meets its contract. Assumes nothing.
-use mathlib.Core.Path.{_≡_, refl, sym, ap, _∙_}
 use borrow.Author.Needs.{needs}
 use Rattle.reply.proofs.is_in_row.Statement.{statement}
 use Rattle.reply.proofs.is_in_row.Tie as tie

@@ -1,5 +1,5 @@
 -- `reply::is_known` meets its contract. Assumes nothing.
-use mathlib.Core.Path.{_≡_, refl, sym, ap, _∙_}
+use mathlib.Core.Path.{sym, _∙_}
 use Rattle.task.proofs.TaskLaws.{reply-small}
 use Rattle.reply.specs.Reply.{knownId}
 use borrow.Author.Needs.{needs}

@@ -1,5 +1,5 @@
 -- `reply::is_misfit` meets its contract. Assumes nothing.
-use mathlib.Core.Path.{_≡_, refl, sym, ap, _∙_}
+use mathlib.Core.Path.{sym, _∙_}
 use Rattle.reply.specs.Reply.{misfit}
 use borrow.Author.Needs.{needs}
 use Rattle.reply.proofs.is_misfit.Statement.{statement}

@@ -1,7 +1,7 @@
 -- `reply::is_not_empty` meets its contract. Assumes nothing.
-use mathlib.Core.Path.{_≡_, refl, sym, ap, _∙_}
+use mathlib.Core.Path.{sym}
 use Rattle.rows.proofs.RowsLaws.{tests}
-use borrow.Author.Tests.{not-true, not-false, eq-eqb, ne-eqb, lt-ltb, le-ltb}
+use borrow.Author.Tests.{eq-eqb}
 use mathlib.Core.Bool.{not}
 use lib.Dec.{eqb}
 use Rattle.rows.proofs.BoolLaws.{cond-same}

@@ -1,6 +1,5 @@
 -- `reply::is_one_of` meets its contract. Assumes nothing.
-use mathlib.Core.Path.{_≡_, refl, sym, ap, _∙_}
-use borrow.Author.Tests.{not-true, not-false, eq-eqb, ne-eqb, lt-ltb, le-ltb}
+use borrow.Author.Tests.{eq-eqb, ne-eqb}
 use Rattle.reply.proofs.is_one_of.Statement.{statement}
 use Rattle.reply.proofs.is_one_of.Tie as tie
 use Rattle.reply.proofs.is_one_of.Reads as reads

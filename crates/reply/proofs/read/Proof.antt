@@ -1,6 +1,6 @@
 -- `reply::read` meets its contract. Assumes nothing.
-use mathlib.Core.Path.{_≡_, refl, sym, ap, _∙_}
-use borrow.Author.Tests.{not-true, not-false, eq-eqb, ne-eqb, lt-ltb, le-ltb}
+use mathlib.Core.Path.{sym, _∙_}
+use borrow.Author.Tests.{not-true, not-false}
 use Rattle.reply.specs.Reply.{readOf}
 use borrow.Author.Needs.{needs}
 use Rattle.reply.proofs.read.Statement.{statement}

@@ -1,7 +1,7 @@
 -- `reply::read_normal` meets its contract. Assumes nothing.
-use mathlib.Core.Path.{_≡_, refl, sym, ap, _∙_}
+use mathlib.Core.Path.{_≡_, sym, _∙_}
 use Rattle.rows.proofs.RowsLaws.{tests}
-use borrow.Author.Tests.{not-true, not-false, eq-eqb, ne-eqb, lt-ltb, le-ltb}
+use borrow.Author.Tests.{eq-eqb, ne-eqb}
 use Rattle.net.specs.Read.{areaAt}
 use Rattle.reply.specs.Reply.{badReply, readNormal}
 use borrow.Author.Needs.{needs}

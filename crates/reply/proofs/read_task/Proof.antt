@@ -1,5 +1,5 @@
 -- `reply::read_task` meets its contract, kind by kind. Assumes nothing.
-use mathlib.Core.Path.{_≡_, refl, sym, ap, _∙_}
+use mathlib.Core.Path.{refl, sym, _∙_}
 use native.Mathlib.Omega.{arith}
 use Rattle.frame.proofs.DecodedLaws.{telegram-framed, normal-bounds}
 use Rattle.reply.specs.Reply.{readTask}
