@@ -1,5 +1,5 @@
 -- `master::build` meets its contract: 30, 31, 32, then the telegram. Assumes nothing.
-use mathlib.Core.Path.{_≡_, refl, sym, ap, _∙_}
+use mathlib.Core.Path.{_≡_, refl, sym, _∙_}
 use mathlib.Core.Bool.{true}
 use borrow.Author.Tests.{not-true, not-false, lt-ltb, le-ltb}
 use Rattle.setup.specs.SetupRules.{setupOk}

@@ -1,5 +1,5 @@
 -- `master::write_broadcast` meets its contract. Assumes nothing.
-use mathlib.Core.Path.{_≡_, refl, sym, ap, _∙_}
+use mathlib.Core.Path.{_≡_, _∙_}
 use mathlib.Core.Bool.{cond}
 use mathlib.Core.Logic.{⊎-elim}
 use Prim.Native.Nat.{_*_}
@@ -8,7 +8,7 @@ use borrow.Author.Tests.{eq-eqb, ne-eqb}
 use lib.Dec.{eqb}
 use Rattle.net.specs.declared.Area.{Area}
 use Rattle.net.proofs.NetLaws.{telegram-sent}
-use Rattle.setup.proofs.SetupLaws.{Configured, configured, area-few}
+use Rattle.setup.proofs.SetupLaws.{configured, area-few}
 use Rattle.master.specs.Build.{commandArea}
 use borrow.Author.Needs.{needs}
 use Rattle.master.proofs.write_broadcast.Statement.{statement}

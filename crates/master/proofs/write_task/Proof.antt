@@ -1,10 +1,10 @@
 -- `master::write_task` meets its contract. Assumes nothing.
-use mathlib.Core.Path.{_≡_, refl, sym, ap, _∙_}
+use mathlib.Core.Path.{_∙_}
 use Prim.Native.Nat.{_+_, _*_, _%_}
 use native.Mathlib.Omega.{arith}
 use Rattle.net.specs.declared.Area.{Area}
 use Rattle.net.proofs.NetLaws.{telegram-sent}
-use Rattle.setup.proofs.SetupLaws.{Configured, configured, area-few}
+use Rattle.setup.proofs.SetupLaws.{configured, area-few}
 use Rattle.task.proofs.PageLaws.{nibble-small}
 use Rattle.master.specs.Build.{taskArea}
 use borrow.Author.Needs.{needs}
