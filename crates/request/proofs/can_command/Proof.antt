@@ -1,6 +1,5 @@
 -- `request::can_command` meets its contract. Assumes nothing.
-use mathlib.Core.Path.{_≡_, refl, sym, ap, _∙_}
-use borrow.Author.Tests.{lt-ltb, le-ltb, eq-eqb, ne-eqb, not-true, not-false}
+use mathlib.Core.Path.{sym, _∙_}
 use borrow.Author.Needs.{needs}
 use Rattle.request.proofs.can_command.Statement.{statement}
 use Rattle.request.proofs.can_command.Tie as tie

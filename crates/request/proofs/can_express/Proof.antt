@@ -1,6 +1,5 @@
 -- `request::can_express` meets its contract. Assumes nothing.
-use mathlib.Core.Path.{_≡_, refl, sym, ap, _∙_}
-use borrow.Author.Tests.{lt-ltb, le-ltb, eq-eqb, ne-eqb, not-true, not-false}
+use borrow.Author.Tests.{lt-ltb, le-ltb}
 use Rattle.request.specs.Request.{expressible}
 use borrow.Author.Needs.{needs}
 use Rattle.request.proofs.can_express.Statement.{statement}

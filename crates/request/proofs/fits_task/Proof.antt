@@ -1,6 +1,6 @@
 -- `request::fits_task` meets its contract. Assumes nothing.
-use mathlib.Core.Path.{_≡_, refl, sym, ap, _∙_}
-use borrow.Author.Tests.{lt-ltb, le-ltb, eq-eqb, ne-eqb, not-true, not-false}
+use mathlib.Core.Path.{sym, _∙_}
+use borrow.Author.Tests.{lt-ltb, le-ltb, eq-eqb, ne-eqb}
 use Rattle.request.specs.Request.{taskFits}
 use borrow.Author.Needs.{needs}
 use Rattle.request.proofs.fits_task.Statement.{statement}

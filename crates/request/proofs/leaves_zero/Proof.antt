@@ -1,7 +1,7 @@
 -- `request::leaves_zero` meets its contract: the first word that is not 0 decides. Assumes nothing.
-use mathlib.Core.Path.{_≡_, refl, sym, ap, _∙_}
+use mathlib.Core.Path.{sym, _∙_}
 use lib.Dec.{ltb}
-use borrow.Author.Tests.{lt-ltb, le-ltb, eq-eqb, ne-eqb, not-true, not-false}
+use borrow.Author.Tests.{not-true, not-false}
 use Rattle.request.specs.Request.{usedOrZero, unusedZero}
 use Rattle.request.proofs.AllLaws.{first-fails, second-fails, third-fails, last-decides}
 use borrow.Author.Needs.{needs}

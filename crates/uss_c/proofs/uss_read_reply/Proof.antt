@@ -1,5 +1,4 @@
 -- `uss_c::uss_read_reply` meets its contract: a reading, with its answer as numbers. Assumes nothing.
-use mathlib.Core.Path.{_≡_, refl, sym, ap, _∙_}
 use Rattle.uss_c.proofs.HostLaws.{reply-gives}
 use borrow.Author.Needs.{needs}
 use Rattle.uss_c.proofs.uss_read_reply.Statement.{statement}
