@@ -1,7 +1,9 @@
 -- `master::build` meets its contract: 30, 31, 32, then the telegram. Assumes nothing.
 use mathlib.Core.Path.{_≡_, refl, sym, _∙_}
 use mathlib.Core.Bool.{true}
+use native.Mathlib.Omega.{arith}
 use borrow.Author.Tests.{not-true, not-false, lt-ltb, le-ltb}
+use lib.ListN.{length}
 use Rattle.setup.specs.SetupRules.{setupOk}
 use Rattle.request.specs.Request.{expressible}
 use Rattle.master.specs.Build.{builtOf}
@@ -43,7 +45,8 @@ returns-3 : tie.Need-returns-3
 unfolding builtOf
 returns-3 c =
     let e = c .before in
-    rw (good e .0, good e .1, lt-ltb _ _ (c .if3 .taken)) (record { answers = refl; bytes-are = refl })
+    let room = length (e .before .before .before .before .before .before .args .out .now) in
+    rw (good e .0, good e .1, lt-ltb room 256 (omega arith)) (record { answers = refl; bytes-are = refl })
 
 -- src/lib.rt:137:9
 write-request-requires : tie.Need-write-request-requires

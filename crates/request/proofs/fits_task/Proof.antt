@@ -1,5 +1,6 @@
 -- `request::fits_task` meets its contract. Assumes nothing.
 use mathlib.Core.Path.{sym, _∙_}
+use native.Mathlib.Omega.{arith}
 use borrow.Author.Tests.{lt-ltb, le-ltb, eq-eqb, ne-eqb}
 use Rattle.request.specs.Request.{taskFits}
 use borrow.Author.Needs.{needs}
@@ -38,7 +39,9 @@ returns-5 c = sym (rw (ne-eqb _ _ (c .before .before .if1 .left), ne-eqb _ _ (c 
 -- src/lib.rt:121:9
 returns-6 : tie.Need-returns-6
 unfolding taskFits
-returns-6 c = sym (rw (ne-eqb _ _ (c .before .before .before .if1 .left), ne-eqb _ _ (c .before .before .if4 .left), le-ltb _ _ (c .before .if5 .left), lt-ltb _ _ (c .if6 .taken)))
+returns-6 c =
+    let index = c .before .before .before .before .args .index in
+    sym (rw (ne-eqb _ _ (c .before .before .before .if1 .left), ne-eqb _ _ (c .before .before .if4 .left), le-ltb _ _ (c .before .if5 .left), lt-ltb 254 index (omega arith)))
 
 -- src/lib.rt:123:9
 task-of-requires : tie.Need-task-of-requires
@@ -53,7 +56,8 @@ returns-7 : tie.Need-returns-7
 unfolding taskFits
 returns-7 c =
     let e = c .before .before in
-    c .fits-value .ensures ∙ sym (rw (ne-eqb _ _ (e .before .before .before .if1 .left), ne-eqb _ _ (e .before .before .if4 .left), le-ltb _ _ (e .before .if5 .left), le-ltb _ _ (e .if6 .left), ← (c .before .task-of .ensures)))
+    let index = e .before .before .before .before .args .index in
+    c .fits-value .ensures ∙ sym (rw (ne-eqb _ _ (e .before .before .before .if1 .left), ne-eqb _ _ (e .before .before .if4 .left), le-ltb _ _ (e .before .if5 .left), le-ltb 254 index (omega arith), ← (c .before .task-of .ensures)))
 
 pub fits-task-spec : {M : Type 1} → statement M
 fits-task-spec =
