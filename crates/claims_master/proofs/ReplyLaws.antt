@@ -28,7 +28,7 @@ pub record Replies (n id number index : ℕ) (p : Area) : Type 0 where
 
 -- a reply ID and a value that may follow a task whose act has this reply ID
 pub record Suits (n : ℕ) (act : Act) (reply replyId v : ℕ) : Type 0 where
-  pub known : (inRow act reply replyId || (eqb replyId 7 || eqb replyId 8)) ≡ true
+  pub id-known : (inRow act reply replyId || (eqb replyId 7 || eqb replyId 8)) ≡ true
   pub fit : misfit n replyId v ≡ false
   pub small : v < 65536 ^ (n - 2)
   pub few : replyId ≤ 7
@@ -94,7 +94,7 @@ suited-replies n id number index replyId v some h i f =
     record {
       heads = record { pke-word = omega (arith, f .few); ind-word = omega (arith, nibble-small number) };
       fits = f .small;
-      good = rw (ne-eqb id 0 some, back, f .known, f .fit, echoed number index replyId v h i, ne-eqb replyId 8 no-8);
+      good = rw (ne-eqb id 0 some, back, f .id-known, f .fit, echoed number index replyId v h i, ne-eqb replyId 8 no-8);
       same-id = c .0 ∙ sym back;
       same-value = c .1;
       not-8 = λ q. no-8 (sym back ∙ q);

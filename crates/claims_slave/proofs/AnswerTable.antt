@@ -4,7 +4,7 @@
 --     answer-exactly    a number is given exactly when its line holds and no earlier one does
 --     exactly-answer    and the number so told is the answer's
 --     beyond-frame      with an opening check and a frame check that pass, the number is none of 10 to 14
---     top-bit           bit 7 of a byte, as it is tested here
+--     top-is-bit-7      bit 7 of a byte, as it is tested here
 use Prim.Native.Nat.{ℕ, _-_, _/_, _%_, _<_}
 use mathlib.Core.Path.{_≡_, refl, sym, ap, subst, _∙_}
 use mathlib.Core.Logic.{inl, inr}
@@ -239,8 +239,8 @@ module _ (s : Setup) (t vs : List ℕ) (control status : Words) (rx out : List �
 
 -- ---- bit 7
 
-pub top-bit : (x : ℕ) → x < 256 → leb 128 x ≡ eqb (x / 128 % 2) 1
-top-bit x h = go (leb 128 x) refl
+pub top-is-bit-7 : (x : ℕ) → x < 256 → leb 128 x ≡ eqb (x / 128 % 2) 1
+top-is-bit-7 x h = go (leb 128 x) refl
   where
     go : (b : Bool) → leb 128 x ≡ b → leb 128 x ≡ eqb (x / 128 % 2) 1
     go true e = let l = leb-true 128 x e in e ∙ sym (eq-eqb (x / 128 % 2) 1 (omega arith))

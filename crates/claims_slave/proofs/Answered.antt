@@ -52,8 +52,8 @@ module _ (s : Setup) (t vs : List ℕ) (control status : Words) (rx out : List �
   abbrev after : Outcome
   after = callOf s t vs control status rx out
 
-  abbrev opens : Type 0
-  opens = openingOf s t vs (length out) ≡ Passed
+  abbrev openingPasses : Type 0
+  openingPasses = openingOf s t vs (length out) ≡ Passed
 
   abbrev notVoid : Type 0
   notVoid = isVoid (commandAt rx (s .pkw)) (s .pkw) (s .pzd) (firstWord s rx) ≡ false
@@ -80,7 +80,7 @@ module _ (s : Setup) (t vs : List ℕ) (control status : Words) (rx out : List �
   pub replied-exactly : (callOf s t vs control status rx out .served .answer ≡ Replied)
       ↔ ((openingOf s t vs (length out) ≡ Passed) × (decodedOf rx ≡ Normal (s .node) 3 (3 + netBytes s)))
   replied-exactly = (
-    call-cases s t vs control status rx out (λ o. o .served .answer ≡ Replied → opens × (decodedOf rx ≡ Normal (s .node) 3 (3 + netBytes s)))
+    call-cases s t vs control status rx out (λ o. o .served .answer ≡ Replied → openingPasses × (decodedOf rx ≡ Normal (s .node) 3 (3 + netBytes s)))
         (λ r b e. absurd (false≢true (sym (ap isRefused e))))
         (λ p d l e. let f = telegram-framed rx (Normal (s .node) 3 (lastOf rx)) d refl in
         let n : lastOf rx ≡ 3 + netBytes s = omega (arith, f .counted .long) in
@@ -92,7 +92,7 @@ module _ (s : Setup) (t vs : List ℕ) (control status : Words) (rx out : List �
 
   pub mirrored-exactly : (callOf s t vs control status rx out .served .answer ≡ Mirrored) ↔ ((openingOf s t vs (length out) ≡ Passed) × (decodedOf rx ≡ Mirror (s .node)))
   mirrored-exactly = (
-    call-cases s t vs control status rx out (λ o. o .served .answer ≡ Mirrored → opens × (decodedOf rx ≡ Mirror (s .node)))
+    call-cases s t vs control status rx out (λ o. o .served .answer ≡ Mirrored → openingPasses × (decodedOf rx ≡ Mirror (s .node)))
         (λ r b e. absurd (false≢true (sym (ap isRefused e))))
         (λ p d l e. absurd (omega (arith, ap answerNumber e)))
         (λ p d e. (p, d))
@@ -104,7 +104,7 @@ module _ (s : Setup) (t vs : List ℕ) (control status : Words) (rx out : List �
       ↔ ((openingOf s t vs (length out) ≡ Passed) × (decodedOf rx ≡ Broadcast) × (length rx ≡ netBytes s + 4)
       × (isVoid (commandAt rx (s .pkw)) (s .pkw) (s .pzd) (firstWord s rx) ≡ false))
   taken-exactly = (
-    call-cases s t vs control status rx out (λ o. o .served .answer ≡ Taken → opens × (decodedOf rx ≡ Broadcast) × (length rx ≡ netBytes s + 4) × notVoid)
+    call-cases s t vs control status rx out (λ o. o .served .answer ≡ Taken → openingPasses × (decodedOf rx ≡ Broadcast) × (length rx ≡ netBytes s + 4) × notVoid)
         (λ r b e. absurd (false≢true (sym (ap isRefused e))))
         (λ p d l e. absurd (omega (arith, ap answerNumber e)))
         (λ p d e. absurd (omega (arith, ap answerNumber e)))
