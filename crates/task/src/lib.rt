@@ -5,7 +5,7 @@ ghost use Rattle.task.specs.Task.{task, taskOf};
 ghost use Rattle.task.specs.declared.Width.the-variants.{Word, Double};
 ghost use Rattle.task.specs.Page.{pageOf, nibbleOf, fullNumber};
 ghost use Rattle.task.specs.Verdict.{refusesAct, changesAct, countsAct, otherWidth, noArray, noElement, noRoom, verdictOf, errorNumber, elementOf};
-ghost use mathlib.Core.Bool.{_&&_, cond};
+ghost use mathlib.Core.Bool.{cond};
 
 // What is to be done. Refuse is for the task IDs that error 106 answers.
 pub enum Act {
@@ -196,12 +196,6 @@ fn lacks_room(double: bool, n: u8, count: bool) -> bool
     double && (n == 3 && !count)
 }
 
-fn both(a: bool, b: bool) -> bool
-    ensures { λ r. ⌜ r ≡ (a && b) ⌝ }
-{
-    a && b
-}
-
 // The first error that applies to a task on a parameter that exists, in the document's order.
 pub fn judge(
     act: Act,
@@ -226,17 +220,21 @@ pub fn judge(
         return Verdict::Denied(ParameterError::NoElement);
     }
     let change = changes(act);
-    if both(change, differs(width, double)) {
-        return Verdict::Denied(ParameterError::OtherWidth);
+    if change {
+        if differs(width, double) {
+            return Verdict::Denied(ParameterError::OtherWidth);
+        }
     }
     if lacks_room(double, n, counts(act)) {
         return Verdict::Denied(ParameterError::NoRoom);
     }
-    if both(change, !writable) {
-        return Verdict::Denied(ParameterError::NotWritable);
-    }
-    if both(change, !inside) {
-        return Verdict::Denied(ParameterError::OutsideLimits);
+    if change {
+        if !writable {
+            return Verdict::Denied(ParameterError::NotWritable);
+        }
+        if !inside {
+            return Verdict::Denied(ParameterError::OutsideLimits);
+        }
     }
     Verdict::Granted
 }
