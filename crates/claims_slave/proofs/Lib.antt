@@ -2,6 +2,8 @@
 pub mod Cases
 pub mod Kept
 pub mod Answered
+pub mod Replied
+pub mod KnownLines
 pub mod AnswerTable
 pub mod Sequences
 pub mod Damaged

@@ -1,6 +1,6 @@
 -- `task::judge` meets its contract: the tests that led to a `return` choose its row. Assumes nothing.
 use mathlib.Core.Path.{_≡_, refl, sym, _∙_}
-use mathlib.Core.Bool.{true, false, not, _&&_}
+use mathlib.Core.Bool.{false, not, _&&_}
 use mathlib.Core.List.{[], _∷_}
 use mathlib.Core.Logic.{inl, inr, ⊎-elim}
 use Rattle.rows.proofs.RowsLaws.{Chosen}

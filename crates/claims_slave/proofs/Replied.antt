@@ -1,0 +1,120 @@
+-- What a slave call that replies sends, stores and takes. Assumes nothing.
+--     reply-sound         a reply passes the frame check and has the task's node and lengths
+--     mirror-same         a mirror's reply is the received telegram, byte for byte
+--     change-stored       a granted change stores the value that it carries at the place that it means, and nowhere else
+--     control-replaced    with bit 10, the first PZD control words are those received
+use Prim.Native.Nat.{ℕ, _+_, _/_, _%_, _≤_, _<_}
+use mathlib.Core.Path.{_≡_, refl, sym, ap, _∙_}
+use mathlib.Core.Bool.{false}
+use mathlib.Core.List.{List}
+use native.Mathlib.Omega.{arith}
+use borrow.Author.Tests.{lt-leb, ne-eqb}
+use lib.ListN.{length, take, drop, set}
+use lib.Seq.{take-at, drop-at}
+use Rattle.words.specs.declared.Words.{Words}
+use Rattle.setup.specs.declared.Setup.{Setup}
+use Rattle.setup.proofs.SetupLaws.{configured, area-few}
+use Rattle.table.specs.Records.{entryAt, entries, firstPlace}
+use Rattle.table.proofs.RecordsLaws.{places-fit}
+use Rattle.frame.specs.Frame.{frameOf}
+use Rattle.frame.specs.Address.{addressOf, kindOf, decodedOf}
+use Rattle.frame.specs.declared.Address.{Address}
+use Rattle.frame.specs.declared.Address.the-variants.{ToOne}
+use Rattle.frame.specs.declared.FrameCheck.the-variants.{Sound}
+use Rattle.frame.specs.declared.Decoded.the-variants.{Normal}
+use Rattle.frame.proofs.DecodedLaws.{telegram-framed, normal-bounds}
+use Rattle.opening.proofs.AnswersLaws.{opened}
+use Rattle.net.specs.Net.{netOf}
+use Rattle.net.specs.Read.{processAt}
+use Rattle.net.proofs.NetLaws.{length-net}
+use Rattle.net.proofs.SealLaws.{passes}
+use Rattle.slave.specs.declared.Answer.the-variants.{Replied, Mirrored}
+use Rattle.setup.specs.SetupRules.{netBytes}
+use Rattle.slave.specs.Slave.{written, firstWord, taskDone, replyOf, controlTaken, callOf}
+use Rattle.task.specs.declared.Act.{Act}
+use Rattle.slave.specs.Perform.{idle, doneOf, performOf}
+use Rattle.slave.proofs.PerformLaws.{task-granted, granted-place}
+use Rattle.claims_slave.specs.Outcomes.{SoundReply, SameReply, areaIn, taskIn, GrantedChange, placeIn, valueIn}
+use Rattle.claims_slave.proofs.Kept.{reply-long, found-is}
+use Rattle.claims_slave.proofs.Answered.{replied-call, mirrored-call, replied-exactly, mirrored-exactly}
+
+-- ---- replies
+
+own-address : (node : ℕ) → node ≤ 31 → addressOf node ≡ ToOne node
+unfolding addressOf
+own-address node h =
+    let high : node / 32 % 2 ≡ 0 = omega arith in
+    let higher : node / 64 % 2 ≡ 0 = omega arith in
+    let low : node % 32 ≡ node = omega arith in
+    rw (lt-leb 128 node (omega arith), high, higher, low)
+
+-- a reply's first bytes are the telegram, the rest of the buffer is as it was
+sent-is : (out telegram : List ℕ) → take (length telegram) (written out telegram) ≡ telegram
+sent-is out telegram = take-at telegram (drop (length telegram) out) (length telegram) refl
+
+rest-is : (out telegram : List ℕ) → drop (length telegram) (written out telegram) ≡ drop (length telegram) out
+rest-is out telegram = drop-at telegram (drop (length telegram) out) (length telegram) refl
+
+module _ (s : Setup) (t vs : List ℕ) (control status : Words) (rx out : List ℕ) where
+  pub reply-sound : callOf s t vs control status rx out .served .answer ≡ Replied → SoundReply s rx out (callOf s t vs control status rx out)
+  unfolding replyOf
+  reply-sound e =
+      let h = replied-exactly s t vs control status rx out .0 e in
+      let c = configured s (opened s t vs (length out) (h .0) .setup-good) in
+      let a = taskDone (s .pkw) t vs rx .area in
+      let net = netOf a (s .pkw) status (s .pzd) in
+      let long : length net ≡ netBytes s = length-net a (s .pkw) status (s .pzd) (c .process) ∙ omega arith in
+      let small = area-few s c in
+      let frame : frameOf (replyOf s a status) ≡ Sound (3 + netBytes s) =
+      passes (s .node) net (omega (arith, c .some)) (omega (arith, c .process)) ∙ ap Sound (omega arith) in
+      let sent = sent-is out (replyOf s a status) in
+      let rl = reply-long s a status (c .process) in
+      let f = telegram-framed rx (Normal (s .node) 3 (3 + netBytes s)) (h .1) refl in
+      let b = normal-bounds rx (s .node) 3 (3 + netBytes s) (h .1) in
+      rw (replied-call s t vs control status rx out (h .0) (h .1))
+      (record {
+        passes = ap frameOf sent ∙ frame;
+        reads = ap decodedOf sent ∙ rw frame (ap (λ (x : Address). kindOf x (3 + netBytes s)) (own-address (s .node) (c .nodes)));
+        reported = ap length (sym sent);
+        as-long = rl ∙ omega (arith, b .1, f .counted .long);
+        rest = rest-is out (replyOf s a status);
+      })
+
+  pub mirror-same : callOf s t vs control status rx out .served .answer ≡ Mirrored → SameReply rx out (callOf s t vs control status rx out)
+  mirror-same e =
+      let h = mirrored-exactly s t vs control status rx out .0 e in
+      rw (mirrored-call s t vs control status rx out (h .0) (h .1))
+      (record { same = sent-is out rx; as-long = refl; rest = rest-is out rx })
+
+-- ---- what is stored
+
+-- a granted change of record j
+module _ (s : Setup) (t vs rx : List ℕ) (j : ℕ) (g : GrantedChange s t rx j) where
+  change-done : taskDone (s .pkw) t vs rx .values ≡ set vs (placeIn s t rx j) (valueIn s rx)
+  unfolding taskDone performOf
+  change-done =
+      let k = taskIn s rx in
+      let a = areaIn s rx in
+      let e = entryAt t j in
+      let busy : idle (k .act) ≡ false = ap idle (g .changes) in
+      rw (ne-eqb (s .pkw) 0 (g .has-area), busy, g .found, task-granted (s .pkw) k a e vs (firstPlace t j) (g .granted))
+      (ap (λ (x : Act). doneOf x (k .reply) a (e .double) (e .elements) (valueIn s rx) vs (placeIn s t rx j) .values) (g .changes))
+
+module _ (s : Setup) (t vs : List ℕ) (control status : Words) (rx out : List ℕ) where
+  pub change-stored : callOf s t vs control status rx out .served .answer ≡ Replied → (j : ℕ) → GrantedChange s t rx j
+      → (callOf s t vs control status rx out .values ≡ set vs (placeIn s t rx j) (valueIn s rx)) × (placeIn s t rx j < length vs)
+  unfolding entries
+  change-stored e j g =
+      let h = replied-exactly s t vs control status rx out .0 e in
+      let o = opened s t vs (length out) (h .0) in (
+        rw (replied-call s t vs control status rx out (h .0) (h .1)) (change-done s t vs rx j g),
+        granted-place (s .pkw) (taskIn s rx) (areaIn s rx) (entryAt t j) vs (firstPlace t j) (g .granted)
+            (omega (arith, o .count, places-fit t (length t / 12) j (found-is t (areaIn s rx) j (g .found)))),
+      )
+
+  pub control-replaced : callOf s t vs control status rx out .served .answer ≡ Replied → (s .pzd ≡ 0 → ⊥) → firstWord s rx / 1024 % 2 ≡ 1
+      → callOf s t vs control status rx out .served .control ≡ processAt rx (s .pkw) (s .pzd) control
+  unfolding controlTaken
+  control-replaced e n b =
+      let h = replied-exactly s t vs control status rx out .0 e in
+      rw (replied-call s t vs control status rx out (h .0) (h .1)) (rw (ne-eqb (s .pzd) 0 n, b))
