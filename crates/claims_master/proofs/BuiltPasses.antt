@@ -26,7 +26,7 @@ use Rattle.master.specs.declared.BuildFault.the-variants.{BadSetup, NotExpressi
 use Rattle.master.specs.declared.BuildAnswer.{BuildAnswer}
 use Rattle.master.specs.declared.BuildAnswer.the-variants.{Done, Refused}
 use Rattle.master.specs.Build.{BuildOutcome, taskArea, commandArea, telegramFor, unbuilt, sent, builtOf}
-use Rattle.claims_master.specs.Claims.{Passes}
+use Rattle.claims_master.specs.Claims.{SoundBuild}
 use Rattle.claims_master.proofs.SentLaws.{net-some, net-fits}
 
 isDone : BuildAnswer → Bool
@@ -75,7 +75,7 @@ request-sendable s (Broadcast selector mask1 mask2 process) net ok asked =
     telegram-sendable 32 (netOf a (s .pkw) process (s .pzd)) (net-some s c a process) (net-fits s c a process)
 
 -- what a telegram at the front of a buffer leaves
-sent-passes : (s : Setup) (r : Request) (net out : List ℕ) → Sendable (telegramFor s r net) → 256 ≤ length out → Passes s r net out (sent (telegramFor s r net) out)
+sent-passes : (s : Setup) (r : Request) (net out : List ℕ) → Sendable (telegramFor s r net) → 256 ≤ length out → SoundBuild s r net out (sent (telegramFor s r net) out)
 sent-passes s r net out f room =
     let t = telegramFor s r net in
     record {
@@ -87,7 +87,7 @@ sent-passes s r net out f room =
       whole = omega (arith, length-append t (drop (length t) out), length-drop (length t) out, f .few);
     }
 
-pub built-passes : (s : Setup) (r : Request) (net out : List ℕ) → builtOf s r net out .built .answer ≡ Done → Passes s r net out (builtOf s r net out)
+pub built-passes : (s : Setup) (r : Request) (net out : List ℕ) → builtOf s r net out .built .answer ≡ Done → SoundBuild s r net out (builtOf s r net out)
 built-passes s r net out e =
     let b = done-buildable s r net out e in
     rw (b .is) (sent-passes s r net out (request-sendable s r net (b .setup-good) (b .asked)) (b .room))
