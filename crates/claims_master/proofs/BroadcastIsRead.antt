@@ -36,7 +36,7 @@ use Rattle.slave.proofs.CaseLaws.{executed, broadcast-taken}
 use Rattle.master.specs.Build.{commandArea, telegramFor}
 use Rattle.claims_master.specs.Claims.{BroadcastRead}
 use Rattle.claims_master.proofs.SentLaws.{to-all, sent-decoded, net-count, net-some, net-fits}
-use Rattle.claims_master.proofs.TaskIsRead.{area-words}
+use Rattle.claims_master.proofs.CarriedLaws.{area-words}
 
 -- a broadcast that is not void has both areas, and a selector of three bits
 record Commands (c : Command) (pkw pzd : ℕ) : Type 0 where

@@ -35,7 +35,8 @@ use Rattle.reply.specs.declared.ReadAnswer.the-variants.{Read}
 use Rattle.reply.specs.Reply.{replyContent, zeroWords, readNormal, readDecoded, readTask, readOf}
 use Rattle.claims_master.specs.Claims.{ReplyRead}
 use Rattle.claims_master.proofs.SentLaws.{normal-decoded}
-use Rattle.claims_master.proofs.TaskIsRead.{area-words, Carried, carried-of, normal-area, task-is-read}
+use Rattle.claims_master.proofs.CarriedLaws.{area-words, Carried, carried-of}
+use Rattle.claims_master.proofs.TaskIsRead.{normal-area, task-is-read}
 use Rattle.claims_master.proofs.ReplyLaws.{Replies, empty-replies, suited-replies, reply-echoes}
 use Rattle.claims_master.proofs.AnswerLaws.{task-answers}
 

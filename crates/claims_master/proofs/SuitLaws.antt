@@ -23,7 +23,7 @@ use Rattle.request.specs.Request.{valueFits}
 use Rattle.slave.specs.Perform.{replyArea, errorArea, carried, readReply, elementCount, doneOf}
 use Rattle.reply.specs.Reply.{inRow, isDoubleId, misfit}
 use Rattle.claims_master.proofs.ReplyLaws.{Suits}
-use Rattle.claims_master.proofs.TaskIsRead.{value-fits}
+use Rattle.claims_master.proofs.CarriedLaws.{value-fits}
 
 or-first : (a b : Bool) → a ≡ true → (a || b) ≡ true
 or-first a b e = rw e
