@@ -7,11 +7,9 @@ use Rattle.broadcast.proofs.merge.Tie as tie
 use Rattle.broadcast.proofs.merge.Reads as reads
 use Rattle.broadcast.proofs.merge.Lts as lts
 
--- src/lib.rt:55:13
 sub-result : tie.Need-sub-result
 sub-result c = search needs
 
--- src/lib.rt:52:1
 returns : tie.Need-returns
 unfolding mergeOf
 returns c = refl

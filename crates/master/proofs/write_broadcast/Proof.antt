@@ -17,19 +17,15 @@ use Rattle.master.proofs.write_broadcast.Reads as reads
 use Rattle.master.proofs.write_broadcast.Lts as lts
 use Rattle.net.proofs.write_normal.Reads as write-normal-reads
 
--- src/lib.rt:79:9
 mul-value : tie.Need-mul-value
 mul-value c = search needs
 
--- src/lib.rt:88:5
 write-normal-requires : tie.Need-write-normal-requires
 write-normal-requires c κs = search needs
 
--- src/lib.rt:67:1
 same-length : tie.Need-same-length
 same-length c = search needs
 
--- src/lib.rt:67:1
 returns : tie.Need-returns
 unfolding commandArea
 returns c =

@@ -11,17 +11,14 @@ use Rattle.reply.proofs.is_not_empty.Tie as tie
 use Rattle.reply.proofs.is_not_empty.Reads as reads
 use Rattle.reply.proofs.is_not_empty.Lts as lts
 
--- src/lib.rt:98:9
 returns : tie.Need-returns
 unfolding notEmpty
 returns c = search tests
 
--- src/lib.rt:101:9
 returns-2 : tie.Need-returns-2
 unfolding notEmpty
 returns-2 c = search tests
 
--- src/lib.rt:94:1
 returns-3 : tie.Need-returns-3
 unfolding notEmpty
 returns-3 c =

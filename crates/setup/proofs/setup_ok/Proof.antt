@@ -10,29 +10,24 @@ use Rattle.setup.proofs.setup_ok.Tie as tie
 use Rattle.setup.proofs.setup_ok.Reads as reads
 use Rattle.setup.proofs.setup_ok.Lts as lts
 
--- src/lib.rt:16:9
 returns : tie.Need-returns
 unfolding setupOk
 returns c = search tests
 
--- src/lib.rt:19:9
 returns-2 : tie.Need-returns-2
 unfolding setupOk
 returns-2 c =
     let pkw = c .before .before .before .before .before .before .before .before .args .setup .pkw in
     search (tests, not-true (eqb pkw 3) (c .before .before .if3 .taken), not-true (eqb pkw 4) (c .if4 .taken))
 
--- src/lib.rt:22:9
 returns-3 : tie.Need-returns-3
 unfolding setupOk
 returns-3 c = search (tests, or-true)
 
--- src/lib.rt:25:9
 returns-4 : tie.Need-returns-4
 unfolding setupOk
 returns-4 c = search tests
 
--- src/lib.rt:12:1
 returns-5 : tie.Need-returns-5
 unfolding setupOk
 returns-5 c =

@@ -18,95 +18,73 @@ use Rattle.task.proofs.task_of.Lts as lts
 use Rattle.task.proofs.row.Reads as row-reads
 use Rattle.task.proofs.width_of.Reads as width-of-reads
 
--- src/lib.rt:82:18
 row-requires : tie.Need-row-requires
 row-requires c κs = search needs
 
--- src/lib.rt:83:18
 row-requires-2 : tie.Need-row-requires-2
 row-requires-2 c κs = search needs
 
--- src/lib.rt:85:18
 row-requires-3 : tie.Need-row-requires-3
 row-requires-3 c κs = search needs
 
--- src/lib.rt:87:18
 row-requires-4 : tie.Need-row-requires-4
 row-requires-4 c κs = search needs
 
--- src/lib.rt:84:35
 width-of-requires : tie.Need-width-of-requires
 width-of-requires c κs = search needs
 
--- src/lib.rt:84:61
 sub-row : tie.Need-sub-row
 sub-row c = search needs
 
--- src/lib.rt:84:18
 row-requires-5 : tie.Need-row-requires-5
 row-requires-5 c κs = search needs
 
--- src/lib.rt:86:35
 width-of-requires-2 : tie.Need-width-of-requires-2
 width-of-requires-2 c κs = search needs
 
--- src/lib.rt:86:60
 sub-row-2 : tie.Need-sub-row-2
 sub-row-2 c = search needs
 
--- src/lib.rt:86:18
 row-requires-6 : tie.Need-row-requires-6
 row-requires-6 c κs = search needs
 
--- src/lib.rt:88:37
 width-of-requires-3 : tie.Need-width-of-requires-3
 width-of-requires-3 c κs = search needs
 
--- src/lib.rt:88:63
 sub-row-3 : tie.Need-sub-row-3
 sub-row-3 c = search needs
 
--- src/lib.rt:88:20
 row-requires-7 : tie.Need-row-requires-7
 row-requires-7 c κs = search needs
 
--- src/lib.rt:89:37
 width-of-requires-4 : tie.Need-width-of-requires-4
 width-of-requires-4 c κs = search needs
 
--- src/lib.rt:89:64
 sub-row-4 : tie.Need-sub-row-4
 sub-row-4 c = search needs
 
--- src/lib.rt:89:20
 row-requires-8 : tie.Need-row-requires-8
 row-requires-8 c κs = search needs
 
--- src/lib.rt:90:14
 row-requires-9 : tie.Need-row-requires-9
 row-requires-9 c κs = search needs
 
--- src/lib.rt:78:1
 returns : tie.Need-returns
 unfolding taskOf tasks
 returns c = c .row .ensures ∙ rw (c .before .match .keys1)
 
--- src/lib.rt:78:1
 returns-2 : tie.Need-returns-2
 unfolding taskOf tasks
 returns-2 c = c .row2 .ensures ∙ rw (c .before .match .keys2)
 
--- src/lib.rt:78:1
 returns-3 : tie.Need-returns-3
 unfolding taskOf tasks
 returns-3 c = c .row3 .ensures ∙ rw (c .before .match .keys3)
 
--- src/lib.rt:78:1
 returns-4 : tie.Need-returns-4
 unfolding taskOf tasks
 returns-4 c = c .row4 .ensures ∙ rw (c .before .match .keys4)
 
--- src/lib.rt:78:1
 returns-5 : tie.Need-returns-5
 unfolding taskOf tasks
 returns-5 c =
@@ -114,7 +92,6 @@ returns-5 c =
     ∙ rw (c .before .width-of .ensures)
     (between (λ k. task Change (cond (eqb k 2) Word Double) false (k - 1) ≡ taskOf k) 2 2 (refl, (refl, tt)) (c .before .before .before .before .args .id) (omega arith) (omega arith))
 
--- src/lib.rt:78:1
 returns-6 : tie.Need-returns-6
 unfolding taskOf tasks
 returns-6 c =
@@ -122,7 +99,6 @@ returns-6 c =
     ∙ rw (c .before .width-of2 .ensures)
     (between (λ k. task Change (cond (eqb k 7) Word Double) true (k - 3) ≡ taskOf k) 2 7 (refl, (refl, tt)) (c .before .before .before .before .before .before .args .id) (omega arith) (omega arith))
 
--- src/lib.rt:78:1
 returns-7 : tie.Need-returns-7
 unfolding taskOf tasks
 returns-7 c =
@@ -130,7 +106,6 @@ returns-7 c =
     ∙ rw (c .before .width-of3 .ensures)
     (between (λ k. task Change (cond (eqb k 12) Word Double) true (16 - k) ≡ taskOf k) 2 11 (refl, (refl, tt)) (c .before .before .before .before .before .before .before .before .args .id) (omega arith) (omega arith))
 
--- src/lib.rt:78:1
 returns-8 : tie.Need-returns-8
 unfolding taskOf tasks
 returns-8 c =
@@ -138,7 +113,6 @@ returns-8 c =
     ∙ rw (c .before .width-of4 .ensures)
     (between (λ k. task Change (cond (eqb k 14) Word Double) false (15 - k) ≡ taskOf k) 2 13 (refl, (refl, tt)) (c .before .before .before .before .before .before .before .before .before .args .id) (omega arith) (omega arith))
 
--- src/lib.rt:78:1
 returns-9 : tie.Need-returns-9
 unfolding taskOf tasks
 returns-9 c =
