@@ -8,6 +8,7 @@ use Prim.Native.Nat.{ℕ, _+_, _-_, _/_, _%_}
 use mathlib.Core.Bool.{Bool, true, false, not, _||_, cond}
 use mathlib.Core.List.{List, [], _∷_}
 use lib.Dec.{eqb, ltb}
+use Rattle.rows.specs.Bits.{bit}
 use Rattle.rows.specs.Rows.{firstOf}
 use Rattle.words.specs.declared.Words.{Words}
 use Rattle.setup.specs.declared.Setup.{Setup}
@@ -96,7 +97,7 @@ otherEcho number index a =
     ((not (eqb (baseOf (a .pke)) (number % 2000)), true)
     ∷ (not (eqb (a .ind / 4096) (nibbleOf number)), true)
     ∷ (not (eqb (a .ind % 256) index), true)
-    ∷ (not (eqb (a .pke / 2048 % 2) 0), true)
+    ∷ (not (eqb (bit 11 (a .pke)) 0), true)
     ∷ (not (eqb (a .ind / 256 % 16) 0), true)
     ∷ [])
     false
