@@ -36,7 +36,7 @@ use Rattle.slave.specs.Perform.{idle, doneOf, performOf}
 use Rattle.slave.proofs.PerformLaws.{task-granted, granted-place}
 use Rattle.claims_slave.specs.Outcomes.{SoundReply, SameReply, areaIn, taskIn, GrantedChange, placeIn, valueIn}
 use Rattle.claims_slave.proofs.Kept.{reply-long, found-is}
-use Rattle.claims_slave.proofs.Answered.{replied-call, mirrored-call, replied-exactly, mirrored-exactly}
+use Rattle.claims_slave.proofs.WhenAnswered.{replied-call, mirrored-call, replied-exactly, mirrored-exactly}
 
 -- ---- replies
 
