@@ -1,17 +1,15 @@
 -- What a merge does to each bit: the mask's bits come from the word, the others from the old word. Assumes nothing.
 use mathlib.Core.Path.{_≡_, refl, sym, ap, _∙_}
-use mathlib.Core.Bool.{Bool, true, false, cond}
-use Prim.Native.Nat.{ℕ, zero, suc, _+_, _-_, _*_, _/_, _%_, _^_, _≤_, _<_}
+use mathlib.Core.Bool.{cond}
+use Prim.Native.Nat.{ℕ, zero, suc, _-_, _/_, _%_, _^_, _<_}
 use native.Mathlib.Omega.{arith}
 use native.Mathlib.Numerals.{one-add}
 use native.Mathlib.Nat.{pow-suc, le-of-suc-le-suc}
 use lib.Bits.{bitAnd, bitOr, or-shr, and-shr, or-mod, and-mod}
 use lib.Pow.{shr-shr}
 use lib.Dec.{eqb}
+use Rattle.rows.specs.Bits.{bit}
 use Rattle.broadcast.specs.Broadcast.{mergeOf}
-
-abbrev pub bit : ℕ → ℕ → ℕ
-bit k x = x / 2 ^ k % 2
 
 shift : (x k : ℕ) → x / 2 ^ suc k ≡ x / 2 / 2 ^ k
 shift x k = sym (shr-shr x 1 k ∙ ap (λ (e : ℕ). x / 2 ^ e) (one-add k))

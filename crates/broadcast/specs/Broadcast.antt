@@ -8,16 +8,17 @@ use mathlib.Core.Bool.{Bool, true, false, not, _&&_, cond}
 use mathlib.Core.List.{List, [], _∷_}
 use lib.Bits.{bitAnd, bitOr}
 use lib.Dec.{eqb, ltb}
+use Rattle.rows.specs.Bits.{bit}
 use Rattle.rows.specs.Rows.{firstOf}
 use Rattle.words.specs.declared.Words.{Words}
 use Rattle.broadcast.specs.declared.Command.{Command}
 
 -- selector bit 1: the first process word; bit 2: the second
 abbrev pub selectsFirst : ℕ → Bool
-selectsFirst selector = eqb (selector / 2 % 2) 1
+selectsFirst selector = eqb (bit 1 selector) 1
 
 abbrev pub selectsSecond : ℕ → Bool
-selectsSecond selector = eqb (selector / 4 % 2) 1
+selectsSecond selector = eqb (bit 2 selector) 1
 
 -- void unless PKW and PZD are not 0, the first word is selected, its mask and the received word both have bit 10, no selector
 -- bit names another word (bit 0, ours, and bits 3 to 15) or one not configured, and a fourth PKW word is 0
@@ -26,12 +27,12 @@ voidRows c pkw pzd first =
     (eqb pkw 0, true)
     ∷ (eqb pzd 0, true)
     ∷ (not (selectsFirst (c .selector)), true)
-    ∷ (not (eqb (c .mask1 / 1024 % 2) 1), true)
-    ∷ (not (eqb (first / 1024 % 2) 1), true)
+    ∷ (not (eqb (bit 10 (c .mask1)) 1), true)
+    ∷ (not (eqb (bit 10 first) 1), true)
     ∷ (not (eqb (c .selector % 2) 0), true)
     ∷ (not (eqb (c .selector / 8) 0), true)
-    ∷ (not (eqb (c .fourth) 0), true)
     ∷ (selectsSecond (c .selector) && ltb pzd 2, true)
+    ∷ (not (eqb (c .fourth) 0), true)
     ∷ []
 
 unfoldable pub isVoid : Command → ℕ → ℕ → ℕ → Bool

@@ -12,12 +12,13 @@ use native.Mathlib.Nat.{zero-div}
 use native.Mathlib.Omega.{arith}
 use borrow.Author.Tests.{ltb-true}
 use lib.Dec.{ltb, lit<}
+use Rattle.rows.specs.Bits.{bit}
 use Rattle.rows.proofs.BoolLaws.{and-left, and-right}
 use Rattle.rows.proofs.RangeLaws.{between}
 use Rattle.words.specs.Words.{byteAt, Bytes}
 use Rattle.frame.specs.Bcc.{xorAll}
 use Rattle.frame.specs.Frame.{frameOf, isSound}
-use Rattle.claims_damage.specs.Damage.{damaged, Damage, bit, flips, Unseen, Hit, OneByte, Order, Burst}
+use Rattle.claims_damage.specs.Damage.{damaged, Damage, flips, Unseen, Hit, OneByte, Order, Burst}
 
 -- the smallest telegrams: one net byte, two net bytes
 abbrev pub one : List ℕ

@@ -9,9 +9,10 @@ use native.Mathlib.Omega.{arith}
 use lib.Arith.{lt-one}
 use lib.Pow.{shr-shr, shr-lt}
 use lib.ListN.{getD}
+use Rattle.rows.specs.Bits.{bit}
 use Rattle.frame.specs.Bcc.{xorAll}
 use Rattle.frame.proofs.XorLaws.{xor-digit}
-use Rattle.claims_damage.specs.Damage.{bit, flips}
+use Rattle.claims_damage.specs.Damage.{flips}
 
 -- a number whose digits are all 0
 pub zero-digits : (n x : ℕ) → x < 2 ^ n → ((k : ℕ) → k < n → x / 2 ^ k % 2 ≡ 0) → x ≡ 0

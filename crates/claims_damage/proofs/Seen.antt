@@ -1,16 +1,15 @@
 -- Which damage the frame check sees: the exact line, and what follows from it. Assumes nothing.
---     exact            damage passes the frame check exactly where it is unseen
---     odd              a position flipped an odd number of times: refused
---     one-byte         one wrong byte: refused
---     burst            a burst within eight consecutive data bits: refused, whichever bit of a byte goes first
---     first-hit        the first byte hit: refused
---     second-hit       LGE hit: refused
+--     exact               damage passes the frame check exactly where it is unseen
+--     odd-seen            a position flipped an odd number of times: refused
+--     one-byte-seen       one wrong byte: refused
+--     burst-seen          a burst within eight consecutive data bits: refused, whichever bit of a byte goes first
+--     first-hit-seen      the first byte hit: refused
+--     second-hit-seen     LGE hit: refused
 --     long-promise     16 bytes received and LGE reading 254: 13
 use mathlib.Core.Path.{_≡_, refl, sym, ap, _∙_}
-use mathlib.Core.Bool.{Bool, true, false}
-use mathlib.Core.List.{List, [], _∷_, _++_, zipWith}
+use mathlib.Core.List.{List, [], _∷_, _++_}
 use mathlib.Core.Logic.{_↔_}
-use Prim.Native.Nat.{ℕ, zero, suc, _+_, _-_, _*_, _/_, _%_, _^_, _≤_, _<_}
+use Prim.Native.Nat.{ℕ, suc, _+_, _*_, _/_, _%_, _^_, _≤_, _<_}
 use native.Mathlib.Nat.{zero-div}
 use native.Mathlib.Omega.{arith}
 use borrow.Author.Tests.{le-ltb, eq-eqb, ne-eqb}
@@ -18,7 +17,8 @@ use lib.Bits.{bitXor, xor-self, xor-zero-r}
 use lib.Dec.{lit≤}
 use lib.ListN.{length, take}
 use lib.Seq.{take-suc, take-length}
-use Rattle.words.specs.Words.{byteAt, Bytes}
+use Rattle.rows.specs.Bits.{bit}
+use Rattle.words.specs.Words.{byteAt}
 use Rattle.frame.specs.Bcc.{xorAll}
 use Rattle.frame.specs.Frame.{frameOf, lastOf, isSound, frameNumber}
 use Rattle.frame.specs.declared.FrameFault.{FrameFault}
@@ -26,8 +26,8 @@ use Rattle.frame.specs.declared.FrameFault.the-variants.{Short, Start, Length, 
 use Rattle.frame.specs.declared.FrameCheck.{FrameCheck}
 use Rattle.frame.specs.declared.FrameCheck.the-variants.{Sound, Broken}
 use Rattle.frame.proofs.XorLaws.{xor-snoc, xor-all-lt, xor-eq, xor-fix, length-zip, getD-zip, xor-zip}
-use Rattle.frame.proofs.FrameLaws.{Counted, Framed, framed, sound}
-use Rattle.claims_damage.specs.Damage.{damaged, Damage, bit, flips, Passes, Refuses, Unseen, Hit, OneByte, bitAt, Order, Burst}
+use Rattle.frame.proofs.FrameLaws.{framed, sound}
+use Rattle.claims_damage.specs.Damage.{damaged, Damage, flips, Passes, Refuses, Unseen, Hit, OneByte, bitAt, Order, Burst}
 use Rattle.claims_damage.proofs.Parity.{zero-digits, one-digit, digit-parity, single}
 
 -- ---- the check byte is right exactly where the XOR of the whole is 0
@@ -54,8 +54,8 @@ module _ (t f : List ℕ) (d : Damage t f) where
       let p = framed t (d .passes) in
       xor-zip t f (d .same) ∙ ap (λ (x : ℕ). bitXor x (xorAll f)) (zero-of-check t (omega arith) (p .check))
 
-  unseen : Passes (damaged t f) → Unseen f
-  unseen h =
+  passing-unseen : Passes (damaged t f) → Unseen f
+  passing-unseen h =
       let p = framed t (d .passes) .counted in
       let q = framed (damaged t f) h in
       let n = length-zip t f (d .same) in
@@ -89,12 +89,12 @@ module _ (t f : List ℕ) (d : Damage t f) where
       }))
 
 pub exact : (t f : List ℕ) → Damage t f → Passes (damaged t f) ↔ Unseen f
-exact t f d = (unseen t f d, passed t f d)
+exact t f d = (passing-unseen t f d, passed t f d)
 
 -- ---- what does not pass is refused with 10 to 14
 
-pub refuses : (t : List ℕ) → (Passes t → ⊥) → Refuses t
-refuses t never = go (frameOf t) refl
+pub not-passing-refused : (t : List ℕ) → (Passes t → ⊥) → Refuses t
+not-passing-refused t never = go (frameOf t) refl
   where
     numbered : (k : FrameFault) → (10 ≤ frameNumber k) × (frameNumber k ≤ 14)
     numbered Short = (lit≤ tt, lit≤ tt)
@@ -112,18 +112,18 @@ refuses t never = go (frameOf t) refl
 zero-unless-one : (x : ℕ) → (x % 2 ≡ 1 → ⊥) → x % 2 ≡ 0
 zero-unless-one x never = omega arith
 
-pub odd : (t f : List ℕ) → Damage t f → (k : ℕ) → k < 8 → flips k f % 2 ≡ 1 → Refuses (damaged t f)
-odd t f d k hk o = refuses (damaged t f) (λ h. omega (arith, exact t f d .0 h .even k hk))
+pub odd-seen : (t f : List ℕ) → Damage t f → (k : ℕ) → k < 8 → flips k f % 2 ≡ 1 → Refuses (damaged t f)
+odd-seen t f d k hk o = not-passing-refused (damaged t f) (λ h. omega (arith, exact t f d .0 h .even k hk))
 
-pub one-byte : (t f : List ℕ) → Damage t f → (i : ℕ) → OneByte f i → Refuses (damaged t f)
-one-byte t f d i w =
+pub one-byte-seen : (t f : List ℕ) → Damage t f → (i : ℕ) → OneByte f i → Refuses (damaged t f)
+one-byte-seen t f d i w =
     let b = one-digit 8 (byteAt f i) (d .bytes i) (w .wrong) in
     let s : flips (b .0) f ≡ 1 =
     single (b .0) f i (b .2) (λ j ne. ap (λ (x : ℕ). bit (b .0) x) (w .rest j ne) ∙ ap (λ (x : ℕ). x % 2) (zero-div (2 ^ (b .0)))) in
-    odd t f d (b .0) (b .1) (ap (λ (x : ℕ). x % 2) s)
+    odd-seen t f d (b .0) (b .1) (ap (λ (x : ℕ). x % 2) s)
 
-pub burst : (t f : List ℕ) → Damage t f → (order : ℕ → ℕ) → Order order → (from : ℕ) → Burst order f from → Refuses (damaged t f)
-burst t f d order ordered from b =
+pub burst-seen : (t f : List ℕ) → Damage t f → (order : ℕ → ℕ) → Order order → (from : ℕ) → Burst order f from → Refuses (damaged t f)
+burst-seen t f d order ordered from b =
     let p = b .place in
     let k = order (p % 8) in
     let s : flips k f ≡ 1 =
@@ -135,13 +135,13 @@ burst t f d order ordered from b =
     let high : q / 8 ≡ j = omega arith in
     let at : bitAt order f q ≡ 1 = rw (low, high) one in
     omega (arith, b .inside q at, b .inside p (b .flip), ne))) in
-    odd t f d k (ordered (p % 8) (omega arith)) (ap (λ (x : ℕ). x % 2) s)
+    odd-seen t f d k (ordered (p % 8) (omega arith)) (ap (λ (x : ℕ). x % 2) s)
 
-pub first-hit : (t f : List ℕ) → Damage t f → Hit f 0 → Refuses (damaged t f)
-first-hit t f d w = refuses (damaged t f) (λ h. omega (arith, exact t f d .0 h .first))
+pub first-hit-seen : (t f : List ℕ) → Damage t f → Hit f 0 → Refuses (damaged t f)
+first-hit-seen t f d w = not-passing-refused (damaged t f) (λ h. omega (arith, exact t f d .0 h .first))
 
-pub second-hit : (t f : List ℕ) → Damage t f → Hit f 1 → Refuses (damaged t f)
-second-hit t f d w = refuses (damaged t f) (λ h. omega (arith, exact t f d .0 h .second))
+pub second-hit-seen : (t f : List ℕ) → Damage t f → Hit f 1 → Refuses (damaged t f)
+second-hit-seen t f d w = not-passing-refused (damaged t f) (λ h. omega (arith, exact t f d .0 h .second))
 
 -- ---- a length byte that promises more than was received
 

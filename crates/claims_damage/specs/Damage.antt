@@ -8,12 +8,13 @@
 --     Hit f i                   a bit of the byte at place i is flipped
 --     OneByte f i               the byte at place i is wrong, and no other
 --     Burst order f from        some bits are flipped, and all of them within eight consecutive data bits
-use Prim.Native.Nat.{ℕ, _+_, _/_, _%_, _^_, _≤_, _<_}
+use Prim.Native.Nat.{ℕ, _+_, _/_, _%_, _≤_, _<_}
 use mathlib.Core.Path.{_≡_}
 use mathlib.Core.Bool.{true}
 use mathlib.Core.List.{List, [], _∷_, zipWith}
 use lib.Bits.{bitXor}
 use lib.ListN.{length}
+use Rattle.rows.specs.Bits.{bit}
 use Rattle.words.specs.Words.{byteAt, Bytes}
 use Rattle.frame.specs.Frame.{frameOf, isSound, frameNumber}
 use Rattle.frame.specs.declared.FrameFault.{FrameFault}
@@ -35,10 +36,6 @@ pub record Damage (t f : List ℕ) : Type 0 where
   pub passes : Passes t
   pub bytes : Bytes f
   pub same : length t ≡ length f
-
--- bit k of a number, 0 or 1
-abbrev pub bit : ℕ → ℕ → ℕ
-bit k x = x / 2 ^ k % 2
 
 unfoldable pub flips : ℕ → List ℕ → ℕ
 flips k [] = 0

@@ -1,7 +1,6 @@
 -- K1 to K12 hold of the definitions, all at once. Assumes nothing.
 use mathlib.Core.Path.{_≡_, refl}
-use mathlib.Core.List.{List, map}
-use Prim.Native.Nat.{ℕ}
+use mathlib.Core.List.{map}
 use Rattle.frame.specs.Bcc.{xorAll}
 use Rattle.frame.specs.Frame.{frameOf}
 use Rattle.frame.specs.Address.{addressOf}

@@ -4,8 +4,6 @@
 use Prim.Native.Nat.{ℕ, _/_, _%_}
 use mathlib.Core.List.{List, [], _∷_}
 use lib.ListN.{replicate, take}
-use Rattle.words.specs.declared.Words.{Words}
-use Rattle.setup.specs.declared.Setup.{Setup}
 use Rattle.frame.specs.Bcc.{xorAll}
 use Rattle.net.specs.declared.Area.{Area}
 use Rattle.net.specs.Net.{wordsOf}
@@ -13,20 +11,12 @@ use Rattle.net.specs.Telegram.{telegramOf}
 use Rattle.slave.specs.Perform.{performOf}
 use Rattle.slave.specs.Slave.{Outcome, answerNumber, callOf}
 use Rattle.request.specs.declared.Request.{Request}
-use Rattle.request.specs.declared.Request.the-variants.{Task}
-use Rattle.master.specs.Build.{BuildOutcome, builtNumber, taskArea, builtOf}
+use Rattle.master.specs.Build.{builtNumber, taskArea, builtOf}
+use Rattle.claims_known.specs.Telegrams.{setup, twoWords, status, request1082, table1082, task1082, value1082, error1082}
 
 -- what the definitions give, and what the document says
 abbrev pub Case : Type 0
 Case = List ℕ × List ℕ
-
--- ---- the set-up: node 3, PKW 4, PZD 2
-
-abbrev pub setup : Setup
-setup = record { node = 3; pkw = 4; pzd = 2 }
-
-abbrev pub words : ℕ → ℕ → Words
-words a b = record { w1 = a; w2 = b; w3 = 0; w4 = 0 }
 
 abbrev pub buffer : List ℕ
 buffer = replicate 256 0
@@ -39,11 +29,7 @@ k1-first = (xorAll (0x02 ∷ 0x07 ∷ 0x00 ∷ 0x04 ∷ 0x00 ∷ 0x21 ∷ 0x00 �
 abbrev pub k1-second : Case
 k1-second = (xorAll (0x02 ∷ 0x05 ∷ 0x00 ∷ 0x00 ∷ 0x0C ∷ 0x06 ∷ []) ∷ [], 0x0D ∷ [])
 
--- ---- K2: the master's telegram for task 1, number 1082, words 047F 2000, with any LGE and last byte for K5 and K6
-
-abbrev pub task1082 : ℕ → ℕ → List ℕ
-task1082 lge last =
-    0x02 ∷ lge ∷ 0x03 ∷ 0x14 ∷ 0x3A ∷ 0x00 ∷ 0x00 ∷ 0x00 ∷ 0x00 ∷ 0x00 ∷ 0x00 ∷ 0x04 ∷ 0x7F ∷ 0x20 ∷ 0x00 ∷ last ∷ []
+-- ---- K2: the master's telegram for task 1, number 1082
 
 -- the answer's number, the length, and the telegram
 abbrev pub built : Request → List ℕ
@@ -52,32 +38,22 @@ built request =
     builtNumber (o .built .answer) ∷ o .built .length ∷ take (o .built .length) (o .out)
 
 abbrev pub k2 : Case
-k2 = (built (Task 1 1082 0 0 (words 0x047F 0x2000)), 0 ∷ 16 ∷ task1082 0x0E 0x7A)
+k2 = (built request1082, 0 ∷ 16 ∷ task1082 0x0E 0x7A)
 
 -- ---- K3, K4, K5, K6: the slave's answers to it
 
--- number 1082, unsigned word, read only, no array, limits 0 to 65535
-abbrev pub table1082 : List ℕ
-table1082 = 0x08 ∷ 0x74 ∷ 0x00 ∷ 0x00 ∷ 0x00 ∷ 0x00 ∷ 0x00 ∷ 0x00 ∷ 0x00 ∷ 0x00 ∷ 0xFF ∷ 0xFF ∷ []
-
 abbrev pub call : List ℕ → List ℕ → List ℕ → Outcome
-call table values received = callOf setup table values (words 0 0) (words 0x0331 0x2000) received buffer
+call table values received = callOf setup table values (twoWords 0 0) status received buffer
 
 -- the answer's number, the reply's length, and the reply
 abbrev pub shown : Outcome → List ℕ
 shown o = answerNumber (o .served .answer) ∷ o .served .length ∷ take (o .served .length) (o .reply)
 
 abbrev pub k3 : Case
-k3 = (
-  shown (call table1082 (5000 ∷ []) (task1082 0x0E 0x7A)),
-  0 ∷ 16 ∷ 0x02 ∷ 0x0E ∷ 0x03 ∷ 0x14 ∷ 0x3A ∷ 0x00 ∷ 0x00 ∷ 0x00 ∷ 0x00 ∷ 0x13 ∷ 0x88 ∷ 0x03 ∷ 0x31 ∷ 0x20 ∷ 0x00 ∷ 0xA8 ∷ [],
-)
+k3 = (shown (call table1082 (5000 ∷ []) (task1082 0x0E 0x7A)), 0 ∷ 16 ∷ value1082)
 
 abbrev pub k4 : Case
-k4 = (
-  shown (call [] [] (task1082 0x0E 0x7A)),
-  0 ∷ 16 ∷ 0x02 ∷ 0x0E ∷ 0x03 ∷ 0x74 ∷ 0x3A ∷ 0x00 ∷ 0x00 ∷ 0x00 ∷ 0x00 ∷ 0x00 ∷ 0x00 ∷ 0x03 ∷ 0x31 ∷ 0x20 ∷ 0x00 ∷ 0x53 ∷ [],
-)
+k4 = (shown (call [] [] (task1082 0x0E 0x7A)), 0 ∷ 16 ∷ error1082)
 
 abbrev pub k5 : Case
 k5 = (shown (call table1082 (5000 ∷ []) (task1082 0x0E 0x7B)), 14 ∷ 0 ∷ [])
@@ -130,7 +106,7 @@ broadcast selector mask first second =
 -- the answer's number, the reply's length, and the four control words, from 047E 1111
 abbrev pub commanded : List ℕ → List ℕ
 commanded received =
-    let o = callOf setup [] [] (words 0x047E 0x1111) (words 0x0331 0x2000) received buffer in
+    let o = callOf setup [] [] (twoWords 0x047E 0x1111) status received buffer in
     answerNumber (o .served .answer) ∷ o .served .length ∷ wordsOf (o .served .control)
 
 abbrev pub k9 : Case

@@ -1,2 +1,3 @@
 -- The known telegrams K1 to K12.
+pub mod Telegrams
 pub mod Known

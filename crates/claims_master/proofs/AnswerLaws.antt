@@ -2,7 +2,7 @@
 use mathlib.Core.Path.{_≡_, refl, sym, ap, _∙_}
 use mathlib.Core.Bool.{Bool, true, false, _&&_, false≢true}
 use mathlib.Core.List.{List}
-use Prim.Native.Nat.{ℕ, _+_, _-_, _%_, _≤_, _<_}
+use Prim.Native.Nat.{ℕ, _+_, _%_, _≤_, _<_}
 use borrow.Author.Tests.{eqb-false, leb-true}
 use lib.Dec.{eqb}
 use lib.ListN.{getD}
@@ -31,7 +31,7 @@ use Rattle.task.specs.Verdict.{refusesAct, changesAct, countsAct, otherWidth, n
 use Rattle.request.specs.Request.{valueFits}
 use Rattle.slave.specs.Perform.{carried, verdictFor, performOn, performFound, foundOf, idle, performTask}
 use Rattle.slave.proofs.PerformLaws.{granted-element, task-denied, task-granted}
-use Rattle.claims_master.proofs.SuitLaws.{Wide, Answers, error-answers, RowOf, row-of, Valued, done-answers}
+use Rattle.claims_master.proofs.SuitLaws.{Wide, Answers, error-answers, RowOf, task-row, Valued, done-answers}
 
 -- ---- a task on a record of a table that passed
 
@@ -121,5 +121,5 @@ task-answers s t vs room id a passed w few v h name small =
     go : (f : Found) → foundOf t a ≡ f → Answers (s .pkw) (taskOf id .act) (taskOf id .reply) a (performFound (s .pkw) (taskOf id) a t vs f .area)
     go Nowhere e = error-answers (s .pkw) (taskOf id .act) (taskOf id .reply) a NoParameter w
     go (At j) e =
-        on-answers (s .pkw) (taskOf id) a t vs j w (row-of id few) v h
+        on-answers (s .pkw) (taskOf id) a t vs j w (task-row id few) v h
         (found-placed s t vs room (fullNumber (a .pke) (a .ind)) j passed (found (At j) e)) small

@@ -3,7 +3,7 @@ use mathlib.Core.Path.{_≡_, refl, ap, _∙_}
 use mathlib.Core.Logic.{_⊎_, inl, inr}
 use mathlib.Core.Bool.{true, false, not}
 use mathlib.Core.List.{List}
-use Prim.Native.Nat.{ℕ, _+_, _-_, _*_, _/_, _%_, _≤_, _<_}
+use Prim.Native.Nat.{ℕ, _+_, _-_, _*_, _/_, _%_, _<_}
 use native.Mathlib.Omega.{arith}
 use borrow.Author.Tests.{eqb-true, eqb-false, not-true, not-false}
 use lib.Dec.{eqb, lit<, lit≤}
@@ -36,7 +36,7 @@ use Rattle.slave.proofs.CaseLaws.{executed, broadcast-taken}
 use Rattle.master.specs.Build.{commandArea, telegramFor}
 use Rattle.claims_master.specs.Claims.{BroadcastRead}
 use Rattle.claims_master.proofs.SentLaws.{to-all, sent-decoded, net-count, net-some, net-fits}
-use Rattle.claims_master.proofs.TaskIsRead.{area-words}
+use Rattle.claims_master.proofs.CarriedLaws.{area-words}
 
 -- a broadcast that is not void has both areas, and a selector of three bits
 record Commands (c : Command) (pkw pzd : ℕ) : Type 0 where
@@ -44,9 +44,9 @@ record Commands (c : Command) (pkw pzd : ℕ) : Type 0 where
   process : pzd ≡ 0 → ⊥
   selects : c .selector < 8
 
-commands : (c : Command) (pkw pzd first : ℕ) → isVoid c pkw pzd first ≡ false → Commands c pkw pzd
+not-void-commands : (c : Command) (pkw pzd first : ℕ) → isVoid c pkw pzd first ≡ false → Commands c pkw pzd
 unfolding isVoid
-commands c pkw pzd first e =
+not-void-commands c pkw pzd first e =
     let p1 = row-passed not (eqb pkw 0) true _ refl (ap not e) in
     let p2 = row-passed not (eqb pzd 0) true _ refl (p1 .1) in
     let p3 = row-passed not (not (selectsFirst (c .selector))) true _ refl (p2 .1) in
@@ -99,7 +99,7 @@ unfolding commandArea
 broadcast-read s selector mask1 mask2 process c v m1 m2 g =
     let a = commandArea (s .pkw) selector mask1 mask2 in
     let rx = telegramOf 32 (netOf a (s .pkw) process (s .pzd)) in
-    let f = commands (commandOf selector mask1 mask2) (s .pkw) (s .pzd) (process .w1) v in
+    let f = not-void-commands (commandOf selector mask1 mask2) (s .pkw) (s .pzd) (process .w1) v in
     let h : Headed a = record { pke-word = omega (arith, f .selects); ind-word = m1 } in
     let d : decodedOf rx ≡ BroadcastTelegram =
     sent-decoded 32 (netOf a (s .pkw) process (s .pzd)) (net-some s c a process) (net-fits s c a process)

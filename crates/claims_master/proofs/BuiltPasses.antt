@@ -26,7 +26,7 @@ use Rattle.master.specs.declared.BuildFault.the-variants.{BadSetup, NotExpressi
 use Rattle.master.specs.declared.BuildAnswer.{BuildAnswer}
 use Rattle.master.specs.declared.BuildAnswer.the-variants.{Done, Refused}
 use Rattle.master.specs.Build.{BuildOutcome, taskArea, commandArea, telegramFor, unbuilt, sent, builtOf}
-use Rattle.claims_master.specs.Claims.{Passes}
+use Rattle.claims_master.specs.Claims.{SoundBuild}
 use Rattle.claims_master.proofs.SentLaws.{net-some, net-fits}
 
 isDone : BuildAnswer → Bool
@@ -43,9 +43,9 @@ pub record Buildable (s : Setup) (r : Request) (net out : List ℕ) : Type 0 whe
   pub room : 256 ≤ length out
   pub is : builtOf s r net out ≡ sent (telegramFor s r net) out
 
-pub buildable : (s : Setup) (r : Request) (net out : List ℕ) → builtOf s r net out .built .answer ≡ Done → Buildable s r net out
+pub done-buildable : (s : Setup) (r : Request) (net out : List ℕ) → builtOf s r net out .built .answer ≡ Done → Buildable s r net out
 unfolding builtOf done isDone
-buildable s r net out e =
+done-buildable s r net out e =
     let p1 = row-passed done (not (setupOk s)) (unbuilt BadSetup out) _ refl (ap isDone e) in
     let p2 = row-passed done (not (expressible s r net)) (unbuilt NotExpressible out) _ refl (p1 .1) in
     let p3 = row-passed done (ltb (length out) 256) (unbuilt ShortBuffer out) _ refl (p2 .1) in
@@ -56,8 +56,8 @@ pub record Sendable (t : List ℕ) : Type 0 where
   pub frame : frameOf t ≡ Sound (length t - 1)
   pub few : length t ≤ 256
 
-sendable : (adr : ℕ) (net : List ℕ) → 1 ≤ length net → length net ≤ 252 → Sendable (telegramOf adr net)
-sendable adr net some fits =
+telegram-sendable : (adr : ℕ) (net : List ℕ) → 1 ≤ length net → length net ≤ 252 → Sendable (telegramOf adr net)
+telegram-sendable adr net some fits =
     let long = length-telegram adr net in
     let last : length net + 3 ≡ length (telegramOf adr net) - 1 = omega arith in
     record { frame = passes adr net some fits ∙ ap Sound last; few = omega arith }
@@ -67,15 +67,15 @@ unfolding telegramFor
 request-sendable s (Task id number index value process) net ok asked =
     let c = configured s ok in
     let a = taskArea id number index value in
-    sendable (s .node) (netOf a (s .pkw) process (s .pzd)) (net-some s c a process) (net-fits s c a process)
-request-sendable s Mirror net ok asked = sendable (s .node + 64) net (mirror-asked s net asked .0) (mirror-asked s net asked .1)
+    telegram-sendable (s .node) (netOf a (s .pkw) process (s .pzd)) (net-some s c a process) (net-fits s c a process)
+request-sendable s Mirror net ok asked = telegram-sendable (s .node + 64) net (mirror-asked s net asked .0) (mirror-asked s net asked .1)
 request-sendable s (Broadcast selector mask1 mask2 process) net ok asked =
     let c = configured s ok in
     let a = commandArea (s .pkw) selector mask1 mask2 in
-    sendable 32 (netOf a (s .pkw) process (s .pzd)) (net-some s c a process) (net-fits s c a process)
+    telegram-sendable 32 (netOf a (s .pkw) process (s .pzd)) (net-some s c a process) (net-fits s c a process)
 
 -- what a telegram at the front of a buffer leaves
-sent-passes : (s : Setup) (r : Request) (net out : List ℕ) → Sendable (telegramFor s r net) → 256 ≤ length out → Passes s r net out (sent (telegramFor s r net) out)
+sent-passes : (s : Setup) (r : Request) (net out : List ℕ) → Sendable (telegramFor s r net) → 256 ≤ length out → SoundBuild s r net out (sent (telegramFor s r net) out)
 sent-passes s r net out f room =
     let t = telegramFor s r net in
     record {
@@ -87,7 +87,7 @@ sent-passes s r net out f room =
       whole = omega (arith, length-append t (drop (length t) out), length-drop (length t) out, f .few);
     }
 
-pub built-passes : (s : Setup) (r : Request) (net out : List ℕ) → builtOf s r net out .built .answer ≡ Done → Passes s r net out (builtOf s r net out)
+pub built-passes : (s : Setup) (r : Request) (net out : List ℕ) → builtOf s r net out .built .answer ≡ Done → SoundBuild s r net out (builtOf s r net out)
 built-passes s r net out e =
-    let b = buildable s r net out e in
+    let b = done-buildable s r net out e in
     rw (b .is) (sent-passes s r net out (request-sendable s r net (b .setup-good) (b .asked)) (b .room))

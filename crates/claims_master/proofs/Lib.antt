@@ -1,6 +1,7 @@
 -- What master and slave make of each other's telegrams.
 pub mod SentLaws
 pub mod BuiltPasses
+pub mod CarriedLaws
 pub mod TaskIsRead
 pub mod MirrorIsRead
 pub mod BroadcastIsRead

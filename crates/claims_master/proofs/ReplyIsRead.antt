@@ -32,10 +32,11 @@ use Rattle.slave.specs.Perform.{Performed, emptyArea, performTask, performOf}
 use Rattle.master.specs.Build.{taskArea, telegramFor}
 use Rattle.reply.specs.declared.Content.the-variants.{Empty}
 use Rattle.reply.specs.declared.ReadAnswer.the-variants.{Read}
-use Rattle.reply.specs.Reply.{contentOf, zeroWords, readNormal, readDecoded, readTask, readOf}
+use Rattle.reply.specs.Reply.{replyContent, zeroWords, readNormal, readDecoded, readTask, readOf}
 use Rattle.claims_master.specs.Claims.{ReplyRead}
 use Rattle.claims_master.proofs.SentLaws.{normal-decoded}
-use Rattle.claims_master.proofs.TaskIsRead.{area-words, Carried, carried-of, normal-area, task-is-read}
+use Rattle.claims_master.proofs.CarriedLaws.{area-words, Carried, carried-of}
+use Rattle.claims_master.proofs.TaskIsRead.{normal-area, task-is-read}
 use Rattle.claims_master.proofs.ReplyLaws.{Replies, empty-replies, suited-replies, reply-echoes}
 use Rattle.claims_master.proofs.AnswerLaws.{task-answers}
 
@@ -65,7 +66,7 @@ module _ (s : Setup) (c : Configured s) (p : Area) (status : Words) (heads : Hea
 
   -- with an area that is a reply to the task
   read-area : (s .pkw ≡ 0 → ⊥) → Replies (s .pkw) id number index p
-      → readTask s id number index answer ≡ record { answer = Read (contentOf id p); process = firstWords (s .pzd) status zeroWords }
+      → readTask s id number index answer ≡ record { answer = Read (replyContent id p); process = firstWords (s .pzd) status zeroWords }
   unfolding readNormal
   read-area some r =
       let n : netBytes s + 3 - 3 ≡ netBytes s = omega arith in

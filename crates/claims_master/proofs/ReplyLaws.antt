@@ -15,27 +15,27 @@ use Rattle.task.proofs.PageLaws.{nibble-small, ind-nibble, ind-index, base-back
 use Rattle.slave.specs.Perform.{emptyArea, replyArea}
 use Rattle.master.specs.Build.{taskArea}
 use Rattle.reply.specs.declared.Content.the-variants.{Value, Failed}
-use Rattle.reply.specs.Reply.{inRow, knownId, misfit, otherEcho, notEmpty, badReply, contentOf, contentId, contentValue}
+use Rattle.reply.specs.Reply.{inRow, knownId, misfit, otherEcho, notEmpty, badReply, replyContent, contentId, contentValue}
 
 -- an area that is read as the reply to a task, with its own reply ID and value
 pub record Replies (n id number index : ℕ) (p : Area) : Type 0 where
   pub heads : Headed p
   pub fits : p .value < 65536 ^ (n - 2)
   pub good : badReply n id number index p ≡ false
-  pub same-id : contentId (contentOf id p) ≡ p .pke / 4096
-  pub same-value : contentValue (contentOf id p) ≡ p .value
+  pub same-id : contentId (replyContent id p) ≡ p .pke / 4096
+  pub same-value : contentValue (replyContent id p) ≡ p .value
   pub not-8 : p .pke / 4096 ≡ 8 → ⊥
 
 -- a reply ID and a value that may follow a task whose act has this reply ID
 pub record Suits (n : ℕ) (act : Act) (reply replyId v : ℕ) : Type 0 where
-  pub known : (inRow act reply replyId || (eqb replyId 7 || eqb replyId 8)) ≡ true
+  pub id-known : (inRow act reply replyId || (eqb replyId 7 || eqb replyId 8)) ≡ true
   pub fit : misfit n replyId v ≡ false
   pub small : v < 65536 ^ (n - 2)
   pub few : replyId ≤ 7
 
 -- task 0
 pub empty-replies : (n id number index : ℕ) → (n ≡ 3) ⊎ (n ≡ 4) → id ≡ 0 → Replies n id number index emptyArea
-unfolding badReply notEmpty contentOf
+unfolding badReply notEmpty replyContent
 empty-replies n id number index w e = record {
   heads = record { pke-word = lit< tt; ind-word = lit< tt };
   fits = zero-fits w;
@@ -75,8 +75,8 @@ id-or-error true replyId v e word = let q = eqb-true replyId 7 e in (sym q, word
 id-or-error false replyId v e word = (refl, refl)
 
 content-same : (id : ℕ) (p : Area) (replyId : ℕ) → (id ≡ 0 → ⊥) → p .pke / 4096 ≡ replyId → replyId ≤ 7 → (replyId ≡ 7 → p .value % 65536 ≡ p .value)
-    → (contentId (contentOf id p) ≡ replyId) × (contentValue (contentOf id p) ≡ p .value)
-unfolding contentOf
+    → (contentId (replyContent id p) ≡ replyId) × (contentValue (replyContent id p) ≡ p .value)
+unfolding replyContent
 content-same id p replyId some e few word =
     let no-8 : replyId ≡ 8 → ⊥ = λ q. omega arith in
     rw (ne-eqb id 0 some, e, ne-eqb replyId 8 no-8) (id-or-error (eqb replyId 7) replyId (p .value) refl word)
@@ -94,7 +94,7 @@ suited-replies n id number index replyId v some h i f =
     record {
       heads = record { pke-word = omega (arith, f .few); ind-word = omega (arith, nibble-small number) };
       fits = f .small;
-      good = rw (ne-eqb id 0 some, back, f .known, f .fit, echoed number index replyId v h i, ne-eqb replyId 8 no-8);
+      good = rw (ne-eqb id 0 some, back, f .id-known, f .fit, echoed number index replyId v h i, ne-eqb replyId 8 no-8);
       same-id = c .0 ∙ sym back;
       same-value = c .1;
       not-8 = λ q. no-8 (sym back ∙ q);

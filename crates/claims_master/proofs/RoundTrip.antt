@@ -18,7 +18,7 @@ use Rattle.master.specs.declared.BuildAnswer.the-variants.{Done}
 use Rattle.master.specs.Build.{telegramFor, builtOf}
 use Rattle.reply.specs.Reply.{readOf}
 use Rattle.claims_master.specs.Claims.{ReplyRead, RoundMade}
-use Rattle.claims_master.proofs.BuiltPasses.{buildable, built-passes}
+use Rattle.claims_master.proofs.BuiltPasses.{done-buildable, built-passes}
 use Rattle.claims_master.proofs.TaskIsRead.{task-is-read}
 use Rattle.claims_master.proofs.ReplyIsRead.{reply-is-read}
 
@@ -40,7 +40,7 @@ pub round-trip : (s : Setup) (t vs : List ℕ) (id number index value : ℕ) (pr
     (take (builtOf s (Task id number index value process) net buffer .built .length) (builtOf s (Task id number index value process) net buffer .out)) out)
 round-trip s t vs id number index value process control status net buffer out done passed v w g small =
     let r = Task id number index value process in
-    let b = buildable s r net buffer done in
+    let b = done-buildable s r net buffer done in
     let rx = telegramFor s r net in
     let e = called s t vs control status rx out Passed passed ∙ task-is-read s id number index value process net (b .setup-good) (b .asked) v w .served t vs control status out in
     rw (built-passes s r net buffer done .there)

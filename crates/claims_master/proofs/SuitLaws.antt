@@ -3,7 +3,7 @@ use mathlib.Core.Path.{_≡_, refl, ap}
 use mathlib.Core.Logic.{_⊎_, inl, inr}
 use mathlib.Core.Bool.{Bool, true, false, _||_, cond, false≢true}
 use mathlib.Core.List.{List}
-use Prim.Native.Nat.{ℕ, _+_, _-_, _%_, _≤_, _<_}
+use Prim.Native.Nat.{ℕ, _+_, _%_, _≤_, _<_}
 use native.Mathlib.Omega.{arith}
 use native.Mathlib.Nat.{add-zero}
 use borrow.Author.Tests.{eq-eqb, eqb-false, le-ltb, not-true, ne-eqb}
@@ -23,7 +23,7 @@ use Rattle.request.specs.Request.{valueFits}
 use Rattle.slave.specs.Perform.{replyArea, errorArea, carried, readReply, elementCount, doneOf}
 use Rattle.reply.specs.Reply.{inRow, isDoubleId, misfit}
 use Rattle.claims_master.proofs.ReplyLaws.{Suits}
-use Rattle.claims_master.proofs.TaskIsRead.{value-fits}
+use Rattle.claims_master.proofs.CarriedLaws.{value-fits}
 
 or-first : (a b : Bool) → a ≡ true → (a || b) ≡ true
 or-first a b e = rw e
@@ -43,7 +43,7 @@ word-suits : (n : ℕ) (act : Act) (reply replyId v : ℕ) → Wide n → (inRow
     → Suits n act reply replyId v
 unfolding misfit
 word-suits n act reply replyId v w known single few small = record {
-  known = known;
+  id-known = known;
   fit = rw (single, le-ltb 65535 v small);
   small = value-fits n v w (λ e. omega arith) (omega arith);
   few = few;
@@ -54,7 +54,7 @@ double-suits : (n : ℕ) (act : Act) (reply replyId v : ℕ) → Wide n → (n �
     → Suits n act reply replyId v
 unfolding misfit
 double-suits n act reply replyId v w four known double few small = record {
-  known = known;
+  id-known = known;
   fit = rw (double, ne-eqb n 3 four);
   small = value-fits n v w (λ e. absurd (four e)) small;
   few = few;
@@ -97,9 +97,9 @@ RowOf Change Double reply = (reply ≡ 2) ⊎ (reply ≡ 5)
 RowOf Count width reply = reply ≡ 6
 RowOf Refuse width reply = Unit {0}
 
-pub row-of : (id : ℕ) → id < 15 → RowOf (taskOf id .act) (taskOf id .width) (taskOf id .reply)
+pub task-row : (id : ℕ) → id < 15 → RowOf (taskOf id .act) (taskOf id .width) (taskOf id .reply)
 unfolding taskOf tasks
-row-of id h =
+task-row id h =
     between (λ k. RowOf (taskOf k .act) (taskOf k .width) (taskOf k .reply)) 15 0
     (tt, (inl refl, (inl refl, (inl refl, (tt, (tt, (inr refl, (inr refl, (inr refl, (refl, (tt, (inr refl, (inr refl, (inl refl, (inl refl, tt)))))))))))))))
     id (omega arith) h

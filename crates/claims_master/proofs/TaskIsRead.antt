@@ -1,11 +1,11 @@
 -- A slave of the same set-up reads a task telegram as the task that was asked. Assumes nothing.
 use mathlib.Core.Path.{_≡_, refl, ap, _∙_}
 use mathlib.Core.Logic.{_⊎_, inl, inr}
-use mathlib.Core.Bool.{Bool, true, false, not, _&&_, cond, false≢true}
+use mathlib.Core.Bool.{Bool, true, false, not, _&&_, cond}
 use mathlib.Core.List.{List}
 use Prim.Native.Nat.{ℕ, _+_, _-_, _*_, _/_, _%_, _^_, _≤_, _<_}
 use native.Mathlib.Omega.{arith}
-use borrow.Author.Tests.{eqb-true, eqb-false, leb-true}
+use borrow.Author.Tests.{eqb-false}
 use lib.Dec.{eqb}
 use Rattle.rows.proofs.BoolLaws.{and-left}
 use Rattle.words.specs.declared.Words.{Words}
@@ -19,88 +19,16 @@ use Rattle.net.specs.Net.{netOf}
 use Rattle.net.specs.Read.{areaAt, processAt, Worded, firstWords}
 use Rattle.net.specs.Telegram.{telegramOf}
 use Rattle.net.proofs.ReadLaws.{Headed, process-word, area-back, process-back}
-use Rattle.task.specs.declared.Act.{Act}
-use Rattle.task.specs.declared.Act.the-variants.{Nothing, Read, Change, Count, Refuse}
-use Rattle.task.specs.declared.Width.{Width}
-use Rattle.task.specs.declared.Width.the-variants.{Either, Word, Double}
-use Rattle.task.specs.Task.{taskOf}
-use Rattle.task.proofs.PageLaws.{nibble-small, ind-index, number-back, named-back, id-back}
+use Rattle.task.proofs.PageLaws.{ind-index, number-back, named-back, id-back}
 use Rattle.request.specs.declared.Request.the-variants.{Task}
-use Rattle.request.specs.Request.{unusedZero, valueFits, taskFits, expressible}
-use Rattle.request.proofs.RequestLaws.{Idle, Asked, task-asked, asked-id}
+use Rattle.request.specs.Request.{unusedZero, taskFits, expressible}
 use Rattle.slave.specs.Slave.{firstWord, taskDone, controlTaken, executeOf, normalOutcome}
 use Rattle.slave.specs.Perform.{emptyArea, performOf}
 use Rattle.slave.proofs.CaseLaws.{executed, normal-replied}
 use Rattle.master.specs.Build.{taskArea, telegramFor}
 use Rattle.claims_master.specs.Claims.{TaskRead}
 use Rattle.claims_master.proofs.SentLaws.{normal-decoded}
-
--- ---- what a task that can be asked carries
-
--- in three words a value of one word
-word-carried : (act : Act) (width : Width) (v : ℕ) → valueFits act width 3 v ≡ true → v < 65536
-unfolding valueFits
-word-carried Nothing width v e = absurd (false≢true e)
-word-carried Read width v e = omega (arith, eqb-true v 0 e)
-word-carried Change Either v e = absurd (false≢true e)
-word-carried Change Word v e = omega (arith, leb-true v 65535 e)
-word-carried Change Double v e = absurd (false≢true e)
-word-carried Count width v e = omega (arith, eqb-true v 0 e)
-word-carried Refuse width v e = absurd (false≢true e)
-
--- an area is of three or four words
-pub area-words : (s : Setup) → Configured s → (s .pkw ≡ 0 → ⊥) → (s .pkw ≡ 3) ⊎ (s .pkw ≡ 4)
-area-words s c h = go (c .areas)
-  where
-    go : (s .pkw ≡ 0) ⊎ ((s .pkw ≡ 3) ⊎ (s .pkw ≡ 4)) → (s .pkw ≡ 3) ⊎ (s .pkw ≡ 4)
-    go (inl e) = absurd (h e)
-    go (inr e) = e
-
--- the value fits the words that are left for it
-pub value-fits : (n v : ℕ) → (n ≡ 3) ⊎ (n ≡ 4) → (n ≡ 3 → v < 65536) → v < 4294967296 → v < 65536 ^ (n - 2)
-value-fits n v (inl e) h g =
-    let f : v < 65536 = h e in
-    rw e f
-value-fits n v (inr e) h g = rw e g
-
-pub record Carried (s : Setup) (id number index value : ℕ) : Type 0 where
-  pub id-few : id < 15
-  pub numbers : number ≤ 31999
-  pub indices : index < 256
-  pub heads : Headed (taskArea id number index value)
-  pub fits : (s .pkw ≡ 0 → ⊥) → value < 65536 ^ (s .pkw - 2)
-
-pub carried-of : (s : Setup) (id number index value : ℕ) → Configured s → taskFits (s .pkw) id number index value ≡ true → value < 4294967296 → Carried s id number index value
-unfolding taskArea
-carried-of s id number index value c h v = go (task-asked (s .pkw) id number index value h)
-  where
-    few : id < 15
-    few = asked-id (s .pkw) id number index value h
-
-    heads-of : index < 256 → Headed (taskArea id number index value)
-    heads-of i = record { pke-word = omega (arith, few); ind-word = omega (arith, nibble-small number) }
-
-    go : ((id ≡ 0) × Idle number index value) ⊎ Asked (s .pkw) id number index value → Carried s id number index value
-    go (inl e) =
-        let i : index < 256 = omega (arith, e .1 .index-none) in
-        record {
-          id-few = few;
-          numbers = omega (arith, e .1 .number-none);
-          indices = i;
-          heads = heads-of i;
-          fits = λ p. value-fits (s .pkw) value (area-words s c p) (λ q. omega (arith, e .1 .value-none)) v;
-        }
-    go (inr a) =
-        let i : index < 256 = omega (arith, a .indices) in
-        record {
-          id-few = few;
-          numbers = a .numbers;
-          indices = i;
-          heads = heads-of i;
-          fits = λ p. value-fits (s .pkw) value (area-words s c p) (λ q. word-carried (taskOf id .act) (taskOf id .width) value (rw q at (a .values))) v;
-        }
-
--- ---- what is read
+use Rattle.claims_master.proofs.CarriedLaws.{area-words, Carried, carried-of}
 
 -- an area of three or four words comes back
 pub normal-area : (s : Setup) (c : Configured s) (a : Area) (w : Words) → Headed a → Worded w → (s .pkw ≡ 0 → ⊥) → a .value < 65536 ^ (s .pkw - 2)

@@ -1,5 +1,5 @@
 -- What is claimed of a master and a slave of the same set-up (document 01, Slave and Answer numbers).
---     Passes ..          a build that succeeded left a telegram with a sound frame, and nothing else changed
+--     SoundBuild ..      a build that succeeded left a telegram with a sound frame, and nothing else changed
 --     TaskRead ..        the slave reads a task telegram as the task that was asked
 --     MirrorRead ..      the slave answers a mirror telegram with the telegram
 --     BroadcastRead ..   each slave with these areas takes a broadcast as it was asked
@@ -32,7 +32,7 @@ use Rattle.reply.specs.Reply.{readNumber, readId, readValue, zeroWords, readOf}
 use Rattle.master.specs.Build.{BuildOutcome, taskArea, telegramFor}
 
 -- of the outcome o of a build into the buffer out
-pub record Passes (s : Setup) (r : Request) (net out : List ℕ) (o : BuildOutcome) : Type 0 where
+pub record SoundBuild (s : Setup) (r : Request) (net out : List ℕ) (o : BuildOutcome) : Type 0 where
   -- the reported bytes are the telegram
   pub there : take (o .built .length) (o .out) ≡ telegramFor s r net
   pub long : o .built .length ≡ length (telegramFor s r net)

@@ -59,8 +59,8 @@ use Rattle.uss_c.proofs.uss_bcc.Reads as uss-bcc
 use Rattle.uss_c.proofs.SameLaws.{slave-same, build-same, reply-same}
 
 -- what is equal to the same definition is equal
-pub one-result : {A : Type 0} {d r r′ : A} → r ≡ d → r′ ≡ d → r ≡ r′
-one-result e e′ = e ∙ sym e′
+pub equal-through : {A : Type 0} {d r r′ : A} → r ≡ d → r′ ≡ d → r ≡ r′
+equal-through e e′ = e ∙ sym e′
 
 -- two calls with the same parameters have the same result
 abbrev pub OneResult : {L : Type 0} {A R S : L → Type 0} → ((κs : L) → A κs → R κs → S κs → Type 0) → Type 0
@@ -72,207 +72,207 @@ OneExit {L} {A} {R} {S} Post left =
     (κs : L) (a : A κs) (r r′ : R κs) (s s′ : S κs) → Post κs a r s → Post κs a r′ s′ → left κs s ≡ left κs s′
 
 pub words-join-one : OneResult words-join.Post
-words-join-one κs a r r′ s s′ = one-result
+words-join-one κs a r r′ s s′ = equal-through
 
 pub words-join-double-one : OneResult words-join-double.Post
-words-join-double-one κs a r r′ s s′ = one-result
+words-join-double-one κs a r r′ s s′ = equal-through
 
 pub words-byte-at-one : OneResult words-byte-at.Post
-words-byte-at-one κs a r r′ s s′ = one-result
+words-byte-at-one κs a r r′ s s′ = equal-through
 
 pub words-word-at-one : OneResult words-word-at.Post
-words-word-at-one κs a r r′ s s′ = one-result
+words-word-at-one κs a r r′ s s′ = equal-through
 
 pub words-double-at-one : OneResult words-double-at.Post
-words-double-at-one κs a r r′ s s′ = one-result
+words-double-at-one κs a r r′ s s′ = equal-through
 
 pub store-has-room-one : OneResult store-has-room.Post
-store-has-room-one κs a r r′ s s′ = one-result
+store-has-room-one κs a r r′ s s′ = equal-through
 
 pub frame-bcc-one : OneResult frame-bcc.Post
-frame-bcc-one κs a r r′ s s′ = one-result
+frame-bcc-one κs a r r′ s s′ = equal-through
 
 pub frame-check-one : OneResult frame-check.Post
-frame-check-one κs a r r′ s s′ = one-result
+frame-check-one κs a r r′ s s′ = equal-through
 
 pub frame-read-address-one : OneResult frame-read-address.Post
-frame-read-address-one κs a r r′ s s′ = one-result
+frame-read-address-one κs a r r′ s s′ = equal-through
 
 pub frame-decode-one : OneResult frame-decode.Post
-frame-decode-one κs a r r′ s s′ = one-result
+frame-decode-one κs a r r′ s s′ = equal-through
 
 pub frame-number-frame-fault-one : OneResult frame-number-frame-fault.Post
-frame-number-frame-fault-one κs a r r′ s s′ = one-result
+frame-number-frame-fault-one κs a r r′ s s′ = equal-through
 
 pub frame-number-fault-one : OneResult frame-number-fault.Post
-frame-number-fault-one κs a r r′ s s′ = one-result
+frame-number-fault-one κs a r r′ s s′ = equal-through
 
 pub setup-setup-ok-one : OneResult setup-setup-ok.Post
-setup-setup-ok-one κs a r r′ s s′ = one-result
+setup-setup-ok-one κs a r r′ s s′ = equal-through
 
 pub entry-entry-of-one : OneResult entry-entry-of.Post
-entry-entry-of-one κs a r r′ s s′ = one-result
+entry-entry-of-one κs a r r′ s s′ = equal-through
 
 pub entry-count-places-one : OneResult entry-count-places.Post
-entry-count-places-one κs a r r′ s s′ = one-result
+entry-count-places-one κs a r r′ s s′ = equal-through
 
 pub entry-at-most-one : OneResult entry-at-most.Post
-entry-at-most-one κs a r r′ s s′ = one-result
+entry-at-most-one κs a r r′ s s′ = equal-through
 
 pub entry-within-one : OneResult entry-within.Post
-entry-within-one κs a r r′ s s′ = one-result
+entry-within-one κs a r r′ s s′ = equal-through
 
 pub entry-entry-ok-one : OneResult entry-entry-ok.Post
-entry-entry-ok-one κs a r r′ s s′ = one-result
+entry-entry-ok-one κs a r r′ s s′ = equal-through
 
 pub table-entry-at-one : OneResult table-entry-at.Post
-table-entry-at-one κs a r r′ s s′ = one-result
+table-entry-at-one κs a r r′ s s′ = equal-through
 
 pub table-find-one : OneResult table-find.Post
-table-find-one κs a r r′ s s′ = one-result
+table-find-one κs a r r′ s s′ = equal-through
 
 pub table-first-place-one : OneResult table-first-place.Post
-table-first-place-one κs a r r′ s s′ = one-result
+table-first-place-one κs a r r′ s s′ = equal-through
 
 pub opening-open-one : OneResult opening-open.Post
-opening-open-one κs a r r′ s s′ = one-result
+opening-open-one κs a r r′ s s′ = equal-through
 
 pub net-read-area-one : OneResult net-read-area.Post
-net-read-area-one κs a r r′ s s′ = one-result
+net-read-area-one κs a r r′ s s′ = equal-through
 
 pub net-read-process-one : OneResult net-read-process.Post
-net-read-process-one κs a r r′ s s′ = one-result
+net-read-process-one κs a r r′ s s′ = equal-through
 
 pub task-task-of-one : OneResult task-task-of.Post
-task-task-of-one κs a r r′ s s′ = one-result
+task-task-of-one κs a r r′ s s′ = equal-through
 
 pub task-page-of-one : OneResult task-page-of.Post
-task-page-of-one κs a r r′ s s′ = one-result
+task-page-of-one κs a r r′ s s′ = equal-through
 
 pub task-nibble-of-one : OneResult task-nibble-of.Post
-task-nibble-of-one κs a r r′ s s′ = one-result
+task-nibble-of-one κs a r r′ s s′ = equal-through
 
 pub task-full-number-one : OneResult task-full-number.Post
-task-full-number-one κs a r r′ s s′ = one-result
+task-full-number-one κs a r r′ s s′ = equal-through
 
 pub task-number-error-one : OneResult task-number-error.Post
-task-number-error-one κs a r r′ s s′ = one-result
+task-number-error-one κs a r r′ s s′ = equal-through
 
 pub task-judge-one : OneResult task-judge.Post
-task-judge-one κs a r r′ s s′ = one-result
+task-judge-one κs a r r′ s s′ = equal-through
 
 pub task-pick-element-one : OneResult task-pick-element.Post
-task-pick-element-one κs a r r′ s s′ = one-result
+task-pick-element-one κs a r r′ s s′ = equal-through
 
 pub broadcast-is-void-one : OneResult broadcast-is-void.Post
-broadcast-is-void-one κs a r r′ s s′ = one-result
+broadcast-is-void-one κs a r r′ s s′ = equal-through
 
 pub broadcast-merge-one : OneResult broadcast-merge.Post
-broadcast-merge-one κs a r r′ s s′ = one-result
+broadcast-merge-one κs a r r′ s s′ = equal-through
 
 pub broadcast-command-control-one : OneResult broadcast-command-control.Post
-broadcast-command-control-one κs a r r′ s s′ = one-result
+broadcast-command-control-one κs a r r′ s s′ = equal-through
 
 pub request-can-ask-one : OneResult request-can-ask.Post
-request-can-ask-one κs a r r′ s s′ = one-result
+request-can-ask-one κs a r r′ s s′ = equal-through
 
 pub request-can-express-one : OneResult request-can-express.Post
-request-can-express-one κs a r r′ s s′ = one-result
+request-can-express-one κs a r r′ s s′ = equal-through
 
 pub reply-read-one : OneResult reply-read.Post
-reply-read-one κs a r r′ s s′ = one-result
+reply-read-one κs a r r′ s s′ = equal-through
 
 pub text-count-digits-one : OneResult text-count-digits.Post
-text-count-digits-one κs a r r′ s s′ = one-result
+text-count-digits-one κs a r r′ s s′ = equal-through
 
 -- result and buffer
 pub store-put-one : OneResult store-put.Post
-store-put-one κs a r r′ s s′ p p′ = one-result (p .0) (p′ .0)
+store-put-one κs a r r′ s s′ p p′ = equal-through (p .0) (p′ .0)
 
 pub store-put-buffer : OneExit store-put.Post (λ κs s. now (s .0))
-store-put-buffer κs a r r′ s s′ p p′ = one-result (p .1) (p′ .1)
+store-put-buffer κs a r r′ s s′ p p′ = equal-through (p .1) (p′ .1)
 
 -- result and buffer
 pub net-seal-one : OneResult net-seal.Post
-net-seal-one κs a r r′ s s′ p p′ = one-result (p .0) (p′ .0)
+net-seal-one κs a r r′ s s′ p p′ = equal-through (p .0) (p′ .0)
 
 pub net-seal-buffer : OneExit net-seal.Post (λ κs s. now (s .0))
-net-seal-buffer κs a r r′ s s′ p p′ = one-result (p .1) (p′ .1)
+net-seal-buffer κs a r r′ s s′ p p′ = equal-through (p .1) (p′ .1)
 
 -- result and buffer
 pub net-write-normal-one : OneResult net-write-normal.Post
-net-write-normal-one κs a r r′ s s′ p p′ = one-result (p .0) (p′ .0)
+net-write-normal-one κs a r r′ s s′ p p′ = equal-through (p .0) (p′ .0)
 
 pub net-write-normal-buffer : OneExit net-write-normal.Post (λ κs s. now (s .0))
-net-write-normal-buffer κs a r r′ s s′ p p′ = one-result (p .1) (p′ .1)
+net-write-normal-buffer κs a r r′ s s′ p p′ = equal-through (p .1) (p′ .1)
 
 -- result and buffer
 pub text-put-number-one : OneResult text-put-number.Post
-text-put-number-one κs a r r′ s s′ p p′ = one-result (p .0) (p′ .0)
+text-put-number-one κs a r r′ s s′ p p′ = equal-through (p .0) (p′ .0)
 
 pub text-put-number-buffer : OneExit text-put-number.Post (λ κs s. now (s .0))
-text-put-number-buffer κs a r r′ s s′ p p′ = one-result (p .1) (p′ .1)
+text-put-number-buffer κs a r r′ s s′ p p′ = equal-through (p .1) (p′ .1)
 
 -- result and buffer
 pub listing-list-one : OneResult listing-list.Post
-listing-list-one κs a r r′ s s′ p p′ = one-result (p .0) (p′ .0)
+listing-list-one κs a r r′ s s′ p p′ = equal-through (p .0) (p′ .0)
 
 pub listing-list-buffer : OneExit listing-list.Post (λ κs s. now (s .1 .0))
-listing-list-buffer κs a r r′ s s′ p p′ = one-result (p .1) (p′ .1)
+listing-list-buffer κs a r r′ s s′ p p′ = equal-through (p .1) (p′ .1)
 
 -- answer, length, control words; values; reply buffer
 pub slave-serve-one : OneResult slave-serve.Post
-slave-serve-one κs a r r′ s s′ p p′ = one-result (p .answers) (p′ .answers)
+slave-serve-one κs a r r′ s s′ p p′ = equal-through (p .answers) (p′ .answers)
 
 pub slave-serve-values : OneExit slave-serve.Post (λ κs s. now (s .1 .1 .0))
-slave-serve-values κs a r r′ s s′ p p′ = one-result (p .values-are) (p′ .values-are)
+slave-serve-values κs a r r′ s s′ p p′ = equal-through (p .values-are) (p′ .values-are)
 
 pub slave-serve-buffer : OneExit slave-serve.Post (λ κs s. now (s .1 .1 .1 .1 .1 .1 .0))
-slave-serve-buffer κs a r r′ s s′ p p′ = one-result (p .reply-is) (p′ .reply-is)
+slave-serve-buffer κs a r r′ s s′ p p′ = equal-through (p .reply-is) (p′ .reply-is)
 
 -- answer and length; buffer
 pub master-build-one : OneResult master-build.Post
-master-build-one κs a r r′ s s′ p p′ = one-result (p .answers) (p′ .answers)
+master-build-one κs a r r′ s s′ p p′ = equal-through (p .answers) (p′ .answers)
 
 pub master-build-buffer : OneExit master-build.Post (λ κs s. now (s .1 .1 .1 .0))
-master-build-buffer κs a r r′ s s′ p p′ = one-result (p .bytes-are) (p′ .bytes-are)
+master-build-buffer κs a r r′ s s′ p p′ = equal-through (p .bytes-are) (p′ .bytes-are)
 
 -- the calls for C
 pub uss-slave-one : OneResult uss-slave.Post
 uss-slave-one κs a r r′ s s′ p p′ = slave-same _ r r′ _ _ _ _ p p′ .0
 
 pub uss-slave-values : OneExit uss-slave.Post (λ κs s. now (s .1 .1 .0))
-uss-slave-values κs a r r′ s s′ p p′ = one-result (p .values-are) (p′ .values-are)
+uss-slave-values κs a r r′ s s′ p p′ = equal-through (p .values-are) (p′ .values-are)
 
 pub uss-slave-buffer : OneExit uss-slave.Post (λ κs s. now (s .1 .1 .1 .1 .1 .1 .0))
-uss-slave-buffer κs a r r′ s s′ p p′ = one-result (p .reply-is) (p′ .reply-is)
+uss-slave-buffer κs a r r′ s s′ p p′ = equal-through (p .reply-is) (p′ .reply-is)
 
 pub uss-build-task-one : OneResult uss-build-task.Post
 uss-build-task-one κs a r r′ s s′ p p′ = build-same _ r r′ _ _ p p′ .0
 
 pub uss-build-task-buffer : OneExit uss-build-task.Post (λ κs s. now (s .1 .1 .1 .1 .1 .1 .0))
-uss-build-task-buffer κs a r r′ s s′ p p′ = one-result (p .bytes-are) (p′ .bytes-are)
+uss-build-task-buffer κs a r r′ s s′ p p′ = equal-through (p .bytes-are) (p′ .bytes-are)
 
 pub uss-build-mirror-one : OneResult uss-build-mirror.Post
 uss-build-mirror-one κs a r r′ s s′ p p′ = build-same _ r r′ _ _ p p′ .0
 
 pub uss-build-mirror-buffer : OneExit uss-build-mirror.Post (λ κs s. now (s .1 .1 .0))
-uss-build-mirror-buffer κs a r r′ s s′ p p′ = one-result (p .bytes-are) (p′ .bytes-are)
+uss-build-mirror-buffer κs a r r′ s s′ p p′ = equal-through (p .bytes-are) (p′ .bytes-are)
 
 pub uss-build-broadcast-one : OneResult uss-build-broadcast.Post
 uss-build-broadcast-one κs a r r′ s s′ p p′ = build-same _ r r′ _ _ p p′ .0
 
 pub uss-build-broadcast-buffer : OneExit uss-build-broadcast.Post (λ κs s. now (s .1 .1 .1 .1 .1 .0))
-uss-build-broadcast-buffer κs a r r′ s s′ p p′ = one-result (p .bytes-are) (p′ .bytes-are)
+uss-build-broadcast-buffer κs a r r′ s s′ p p′ = equal-through (p .bytes-are) (p′ .bytes-are)
 
 pub uss-read-reply-one : OneResult uss-read-reply.Post
 uss-read-reply-one κs a r r′ s s′ p p′ = reply-same _ r r′ p p′
 
 pub uss-list-one : OneResult uss-list.Post
-uss-list-one κs a r r′ s s′ p p′ = one-result (p .0) (p′ .0)
+uss-list-one κs a r r′ s s′ p p′ = equal-through (p .0) (p′ .0)
 
 pub uss-list-buffer : OneExit uss-list.Post (λ κs s. now (s .1 .0))
-uss-list-buffer κs a r r′ s s′ p p′ = one-result (p .1) (p′ .1)
+uss-list-buffer κs a r r′ s s′ p p′ = equal-through (p .1) (p′ .1)
 
 pub uss-bcc-one : OneResult uss-bcc.Post
-uss-bcc-one κs a r r′ s s′ = one-result
+uss-bcc-one κs a r r′ s s′ = equal-through

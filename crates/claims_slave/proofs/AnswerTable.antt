@@ -1,15 +1,14 @@
 -- The answer of a slave call is that of document 01's table, for every input. Assumes nothing.
---     lines-known       the table's numbers at known telegrams
 --     answer-table      the number is that of the first line that holds, and 0, 1 or 2 where none does
 --     answer-exactly    a number is given exactly when its line holds and no earlier one does
 --     exactly-answer    and the number so told is the answer's
 --     beyond-frame      with an opening check and a frame check that pass, the number is none of 10 to 14
---     top-bit           bit 7 of a byte, as it is tested here
+--     top-is-bit-7      bit 7 of a byte, as it is tested here
 use Prim.Native.Nat.{ℕ, _-_, _/_, _%_, _<_}
 use mathlib.Core.Path.{_≡_, refl, sym, ap, subst, _∙_}
 use mathlib.Core.Logic.{inl, inr}
 use mathlib.Core.Bool.{Bool, true, false, not, _&&_, _||_, cond}
-use mathlib.Core.List.{List, [], _∷_, map}
+use mathlib.Core.List.{List, [], _∷_}
 use native.Mathlib.Omega.{arith}
 use borrow.Author.Tests.{leb-true, leb-false, eq-eqb, ne-eqb}
 use lib.Dec.{leb, eqb, lit<}
@@ -19,9 +18,7 @@ use Rattle.rows.proofs.RowsLaws.{first-all, Chosen, first-chosen, chosen-first}
 use Rattle.words.specs.Words.{byteAt}
 use Rattle.words.specs.declared.Words.{Words}
 use Rattle.setup.specs.declared.Setup.{Setup}
-use Rattle.setup.specs.SetupRules.{setupOk, netBytes}
-use Rattle.table.specs.Records.{entriesFrom, entries, countsOf}
-use Rattle.frame.specs.Bcc.{xorAll}
+use Rattle.setup.specs.SetupRules.{netBytes}
 use Rattle.frame.specs.Frame.{lastOf, frameRows, frameOf}
 use Rattle.frame.specs.Address.{addressRows, addressOf, kindOf, decodedFrom}
 use Rattle.frame.specs.declared.Address.{Address}
@@ -31,7 +28,6 @@ use Rattle.frame.specs.declared.FrameCheck.the-variants.{Sound}
 use Rattle.frame.specs.declared.Decoded.{Decoded}
 use Rattle.frame.proofs.FrameLaws.{Framed}
 use Rattle.frame.proofs.DecodedLaws.{framed-decoded}
-use Rattle.opening.specs.Rules.{risingFrom, eachOk, runsOk}
 use Rattle.opening.specs.Answers.{openingRows, openingOf}
 use Rattle.opening.specs.declared.Opening.{Opening}
 use Rattle.opening.specs.declared.Opening.the-variants.{Passed}
@@ -58,39 +54,6 @@ first-read k (row ∷ rows) other = go (row .0) (first-read k rows other)
         → k (cond b (row .1) (firstOf rows other)) ≡ cond b (k (row .1)) (firstOf (readRows k rows) (k other))
     go true e = refl
     go false e = e
-
--- ---- the table at known telegrams: node 3, no parameter area, one process word
-
-abbrev pub small : Setup
-small = record { node = 3; pkw = 0; pzd = 1 }
-
-abbrev pub lines : List (List ℕ × ℕ)
-lines =
-    (0x02 ∷ 0x02 ∷ 0x03 ∷ 0x03 ∷ [], 10)
-    ∷ (0x03 ∷ 0x02 ∷ 0x03 ∷ 0x15 ∷ 0x17 ∷ [], 11)
-    ∷ (0x02 ∷ 0x02 ∷ 0x03 ∷ 0x15 ∷ 0x17 ∷ [], 12)
-    ∷ (0x02 ∷ 0x04 ∷ 0x03 ∷ 0x15 ∷ 0x17 ∷ [], 13)
-    ∷ (0x02 ∷ 0x03 ∷ 0x83 ∷ 0x15 ∷ 0x17 ∷ [], 14)
-    -- bit 7; bits 5 and 6 together
-    ∷ (0x02 ∷ 0x03 ∷ 0x80 ∷ 0x15 ∷ 0x94 ∷ [], 15)
-    ∷ (0x02 ∷ 0x03 ∷ 0x60 ∷ 0x15 ∷ 0x74 ∷ [], 15)
-    -- other node and other length; a mirror to another node
-    ∷ (0x02 ∷ 0x03 ∷ 0x04 ∷ 0x15 ∷ 0x10 ∷ [], 16)
-    ∷ (0x02 ∷ 0x03 ∷ 0x44 ∷ 0x15 ∷ 0x50 ∷ [], 16)
-    -- other length; a broadcast of another length
-    ∷ (0x02 ∷ 0x03 ∷ 0x03 ∷ 0x15 ∷ 0x17 ∷ [], 17)
-    ∷ (0x02 ∷ 0x03 ∷ 0x20 ∷ 0x15 ∷ 0x34 ∷ [], 17)
-    -- a broadcast without a parameter area
-    ∷ (0x02 ∷ 0x04 ∷ 0x20 ∷ 0x00 ∷ 0x00 ∷ 0x26 ∷ [], 18)
-    -- a task; a mirror of another length
-    ∷ (0x02 ∷ 0x04 ∷ 0x03 ∷ 0x04 ∷ 0x7F ∷ 0x7E ∷ [], 0)
-    ∷ (0x02 ∷ 0x03 ∷ 0x43 ∷ 0x15 ∷ 0x57 ∷ [], 1)
-    ∷ []
-
-pub lines-known : map (λ (x : List ℕ × ℕ). firstOf (answerRows small [] [] 256 (x .0)) (acceptedNumber (x .0))) lines
-    ≡ map (λ (x : List ℕ × ℕ). x .1) lines
-unfolding setupOk entriesFrom entries countsOf risingFrom eachOk runsOk xorAll isVoid
-lines-known = refl
 
 -- ---- the kinds
 
@@ -239,8 +202,8 @@ module _ (s : Setup) (t vs : List ℕ) (control status : Words) (rx out : List �
 
 -- ---- bit 7
 
-pub top-bit : (x : ℕ) → x < 256 → leb 128 x ≡ eqb (x / 128 % 2) 1
-top-bit x h = go (leb 128 x) refl
+pub top-is-bit-7 : (x : ℕ) → x < 256 → leb 128 x ≡ eqb (x / 128 % 2) 1
+top-is-bit-7 x h = go (leb 128 x) refl
   where
     go : (b : Bool) → leb 128 x ≡ b → leb 128 x ≡ eqb (x / 128 % 2) 1
     go true e = let l = leb-true 128 x e in e ∙ sym (eq-eqb (x / 128 % 2) 1 (omega arith))

@@ -23,7 +23,7 @@ use Rattle.frame.proofs.FrameLaws.{framed}
 use Rattle.opening.specs.Answers.{openingOf}
 use Rattle.opening.specs.declared.Opening.the-variants.{Passed}
 use Rattle.claims_damage.specs.Damage.{Refuses, damaged, Damage, flips, Unseen, Hit, OneByte, Order, Burst}
-use Rattle.claims_damage.proofs.Seen.{exact, refuses, odd, one-byte, burst, first-hit, second-hit}
+use Rattle.claims_damage.proofs.Seen.{exact, not-passing-refused, odd-seen, one-byte-seen, burst-seen, first-hit-seen, second-hit-seen}
 use Rattle.slave.specs.Slave.{Outcome, callOf}
 use Rattle.slave.proofs.CaseLaws.{executed, called}
 use Rattle.claims_slave.specs.Outcomes.{FrameRefused, PastFrame}
@@ -49,7 +49,7 @@ module _ (s : Setup) (table vs : List ℕ) (control status : Words) (out : List 
 
   pub damaged-refused : (t f : List ℕ) → openingOf s table vs (length out) ≡ Passed → Damage t f → (Unseen f → ⊥)
       → FrameRefused (callOf s table vs control status (damaged t f) out) control vs out
-  damaged-refused t f p d never = frame-refused p (damaged t f) (refuses (damaged t f) (λ h. never (exact t f d .0 h)))
+  damaged-refused t f p d never = frame-refused p (damaged t f) (not-passing-refused (damaged t f) (λ h. never (exact t f d .0 h)))
 
   unseen-beyond : (t f : List ℕ) → openingOf s table vs (length out) ≡ Passed → Damage t f → Unseen f
       → PastFrame (callOf s table vs control status (damaged t f) out)
@@ -64,7 +64,7 @@ module _ (s : Setup) (table vs : List ℕ) (control status : Words) (out : List 
       go : PastFrame (callOf s table vs control status (damaged t f) out) → (b : Bool) → isSound (frameOf (damaged t f)) ≡ b → Unseen f
       go past true e = exact t f d .0 e
       go past false e =
-          let r = frame-refused p (damaged t f) (refuses (damaged t f) (λ h. false≢true (sym e ∙ h))) in
+          let r = frame-refused p (damaged t f) (not-passing-refused (damaged t f) (λ h. false≢true (sym e ∙ h))) in
           absurd (not-both (callOf s table vs control status (damaged t f) out) control vs out r past)
 
   pub refused-exactly : (t f : List ℕ) → openingOf s table vs (length out) ≡ Passed → Damage t f
@@ -76,20 +76,20 @@ module _ (s : Setup) (table vs : List ℕ) (control status : Words) (out : List 
 
   pub odd-refused : (t f : List ℕ) → openingOf s table vs (length out) ≡ Passed → Damage t f → (k : ℕ) → k < 8 → flips k f % 2 ≡ 1
       → FrameRefused (callOf s table vs control status (damaged t f) out) control vs out
-  odd-refused t f p d k h o = frame-refused p (damaged t f) (odd t f d k h o)
+  odd-refused t f p d k h o = frame-refused p (damaged t f) (odd-seen t f d k h o)
 
   pub one-byte-refused : (t f : List ℕ) → openingOf s table vs (length out) ≡ Passed → Damage t f → (i : ℕ) → OneByte f i
       → FrameRefused (callOf s table vs control status (damaged t f) out) control vs out
-  one-byte-refused t f p d i w = frame-refused p (damaged t f) (one-byte t f d i w)
+  one-byte-refused t f p d i w = frame-refused p (damaged t f) (one-byte-seen t f d i w)
 
   pub burst-refused : (t f : List ℕ) → openingOf s table vs (length out) ≡ Passed → Damage t f → (order : ℕ → ℕ) → Order order → (from : ℕ) → Burst order f from
       → FrameRefused (callOf s table vs control status (damaged t f) out) control vs out
-  burst-refused t f p d order ordered from b = frame-refused p (damaged t f) (burst t f d order ordered from b)
+  burst-refused t f p d order ordered from b = frame-refused p (damaged t f) (burst-seen t f d order ordered from b)
 
   pub first-hit-refused : (t f : List ℕ) → openingOf s table vs (length out) ≡ Passed → Damage t f → Hit f 0
       → FrameRefused (callOf s table vs control status (damaged t f) out) control vs out
-  first-hit-refused t f p d w = frame-refused p (damaged t f) (first-hit t f d w)
+  first-hit-refused t f p d w = frame-refused p (damaged t f) (first-hit-seen t f d w)
 
   pub second-hit-refused : (t f : List ℕ) → openingOf s table vs (length out) ≡ Passed → Damage t f → Hit f 1
       → FrameRefused (callOf s table vs control status (damaged t f) out) control vs out
-  second-hit-refused t f p d w = frame-refused p (damaged t f) (second-hit t f d w)
+  second-hit-refused t f p d w = frame-refused p (damaged t f) (second-hit-seen t f d w)

@@ -2,7 +2,7 @@
 --     refused-keeps     a refused call leaves values, control words and reply buffer as they were, and reports length 0
 --     opening-kept      after a call that passed the opening check, the next one passes it too
 --     buffer-kept       a call that passed the opening check leaves a buffer of the same length
-use Prim.Native.Nat.{ℕ, _+_, _-_, _/_, _%_, _≤_, _<_}
+use Prim.Native.Nat.{ℕ, _+_, _/_, _%_, _≤_, _<_}
 use mathlib.Core.Path.{_≡_, refl}
 use mathlib.Core.Bool.{Bool, true, false, cond, false≢true}
 use mathlib.Core.List.{List}

@@ -5,8 +5,6 @@ use Prim.Native.Nat.{ℕ}
 use mathlib.Core.Path.{_≡_, refl}
 use mathlib.Core.List.{List, [], _∷_, map}
 use lib.ListN.{replicate}
-use Rattle.words.specs.declared.Words.{Words}
-use Rattle.setup.specs.declared.Setup.{Setup}
 use Rattle.setup.specs.SetupRules.{setupOk}
 use Rattle.entry.specs.Fields.{entryOf, countOf}
 use Rattle.entry.specs.Limits.{signedOf, numberOf, atMost, fitsIn, isWithin, entryOk}
@@ -24,14 +22,8 @@ use Rattle.task.specs.Verdict.{verdictOf, elementOf}
 use Rattle.broadcast.specs.Broadcast.{isVoid, mergeOf, controlAfter}
 use Rattle.slave.specs.Perform.{performOn, foundOf, performOf}
 use Rattle.slave.specs.Slave.{answerNumber, taskDone, controlTaken, replyOf, normalCase, mirrorCase, commandAt, broadcastCase, executeOf, callOf}
+use Rattle.claims_known.specs.Telegrams.{setup, twoWords, process, status, task1082, value1082}
 use Rattle.claims_slave.specs.Sequence.{State, Event, Seen, Run, runOf}
-
-abbrev pub words : ℕ → ℕ → Words
-words a b = record { w1 = a; w2 = b; w3 = 0; w4 = 0 }
-
--- node 3, PKW 4, PZD 2
-abbrev pub setup : Setup
-setup = record { node = 3; pkw = 4; pzd = 2 }
 
 -- parameter 1082, a writable word of 0 to 10000
 abbrev pub table : List ℕ
@@ -39,27 +31,31 @@ table = 0x08 ∷ 0x74 ∷ 0x40 ∷ 0x00 ∷ 0x00 ∷ 0x00 ∷ 0x00 ∷ 0x00 ∷ 
 
 -- its value is 5000
 abbrev pub start : State
-start = record { values = 5000 ∷ []; control = words 0 0; buffer = replicate 256 0 }
+start = record { values = 5000 ∷ []; control = twoWords 0 0; buffer = replicate 256 0 }
 
-abbrev pub event : List ℕ → Event
-event rx = record { received = rx; status = words 0x0331 0x2000 }
+abbrev pub eventOf : List ℕ → Event
+eventOf rx = record { received = rx; status = status }
+
+-- the reply that carries 6000
+abbrev pub value6000 : List ℕ
+value6000 = 0x02 ∷ 0x0E ∷ 0x03 ∷ 0x14 ∷ 0x3A ∷ 0x00 ∷ 0x00 ∷ 0x00 ∷ 0x00 ∷ 0x17 ∷ 0x70 ∷ 0x03 ∷ 0x31 ∷ 0x20 ∷ 0x00 ∷ 0x54 ∷ []
 
 -- received, answer number and reply
 abbrev pub calls : List (List ℕ × ℕ × List ℕ)
 calls =
     -- K2: read
-    (0x02 ∷ 0x0E ∷ 0x03 ∷ 0x14 ∷ 0x3A ∷ 0x00 ∷ 0x00 ∷ 0x00 ∷ 0x00 ∷ 0x00 ∷ 0x00 ∷ 0x04 ∷ 0x7F ∷ 0x20 ∷ 0x00 ∷ 0x7A ∷ [], 0, 0x02 ∷ 0x0E ∷ 0x03 ∷ 0x14 ∷ 0x3A ∷ 0x00 ∷ 0x00 ∷ 0x00 ∷ 0x00 ∷ 0x13 ∷ 0x88 ∷ 0x03 ∷ 0x31 ∷ 0x20 ∷ 0x00 ∷ 0xA8 ∷ [])
+    (task1082 0x0E 0x7A, 0, value1082)
     -- K2 with another BCC
-    ∷ (0x02 ∷ 0x0E ∷ 0x03 ∷ 0x14 ∷ 0x3A ∷ 0x00 ∷ 0x00 ∷ 0x00 ∷ 0x00 ∷ 0x00 ∷ 0x00 ∷ 0x04 ∷ 0x7F ∷ 0x20 ∷ 0x00 ∷ 0x7B ∷ [], 14, [])
+    ∷ (task1082 0x0E 0x7B, 14, [])
     -- change to 6000
-    ∷ (0x02 ∷ 0x0E ∷ 0x03 ∷ 0x24 ∷ 0x3A ∷ 0x00 ∷ 0x00 ∷ 0x00 ∷ 0x00 ∷ 0x17 ∷ 0x70 ∷ 0x04 ∷ 0x7E ∷ 0x30 ∷ 0x00 ∷ 0x3C ∷ [], 0, 0x02 ∷ 0x0E ∷ 0x03 ∷ 0x14 ∷ 0x3A ∷ 0x00 ∷ 0x00 ∷ 0x00 ∷ 0x00 ∷ 0x17 ∷ 0x70 ∷ 0x03 ∷ 0x31 ∷ 0x20 ∷ 0x00 ∷ 0x54 ∷ [])
+    ∷ (0x02 ∷ 0x0E ∷ 0x03 ∷ 0x24 ∷ 0x3A ∷ 0x00 ∷ 0x00 ∷ 0x00 ∷ 0x00 ∷ 0x17 ∷ 0x70 ∷ 0x04 ∷ 0x7E ∷ 0x30 ∷ 0x00 ∷ 0x3C ∷ [], 0, value6000)
     -- another node
     ∷ (0x02 ∷ 0x0E ∷ 0x04 ∷ 0x14 ∷ 0x3A ∷ 0x00 ∷ 0x00 ∷ 0x00 ∷ 0x00 ∷ 0x00 ∷ 0x00 ∷ 0x04 ∷ 0x7F ∷ 0x20 ∷ 0x00 ∷ 0x7D ∷ [], 16, [])
     -- K2 again: the new value
-    ∷ (0x02 ∷ 0x0E ∷ 0x03 ∷ 0x14 ∷ 0x3A ∷ 0x00 ∷ 0x00 ∷ 0x00 ∷ 0x00 ∷ 0x00 ∷ 0x00 ∷ 0x04 ∷ 0x7F ∷ 0x20 ∷ 0x00 ∷ 0x7A ∷ [], 0, 0x02 ∷ 0x0E ∷ 0x03 ∷ 0x14 ∷ 0x3A ∷ 0x00 ∷ 0x00 ∷ 0x00 ∷ 0x00 ∷ 0x17 ∷ 0x70 ∷ 0x03 ∷ 0x31 ∷ 0x20 ∷ 0x00 ∷ 0x54 ∷ [])
-    -- no such parameter
-    ∷ (0x02 ∷ 0x0E ∷ 0x03 ∷ 0x14 ∷ 0x3B ∷ 0x00 ∷ 0x00 ∷ 0x00 ∷ 0x00 ∷ 0x00 ∷ 0x00 ∷ 0x04 ∷ 0x7F ∷ 0x20 ∷ 0x00 ∷ 0x7B ∷ [], 0, 0x02 ∷ 0x0E ∷ 0x03 ∷ 0x74 ∷ 0x3B ∷ 0x00 ∷ 0x00 ∷ 0x00 ∷ 0x00 ∷ 0x00 ∷ 0x00 ∷ 0x03 ∷ 0x31 ∷ 0x20 ∷ 0x00 ∷ 0x52 ∷ [])
-    -- a broadcast
+    ∷ (task1082 0x0E 0x7A, 0, value6000)
+    -- no such parameter; its words 047E 2000 are taken
+    ∷ (0x02 ∷ 0x0E ∷ 0x03 ∷ 0x14 ∷ 0x3B ∷ 0x00 ∷ 0x00 ∷ 0x00 ∷ 0x00 ∷ 0x00 ∷ 0x00 ∷ 0x04 ∷ 0x7E ∷ 0x20 ∷ 0x00 ∷ 0x7A ∷ [], 0, 0x02 ∷ 0x0E ∷ 0x03 ∷ 0x74 ∷ 0x3B ∷ 0x00 ∷ 0x00 ∷ 0x00 ∷ 0x00 ∷ 0x00 ∷ 0x00 ∷ 0x03 ∷ 0x31 ∷ 0x20 ∷ 0x00 ∷ 0x52 ∷ [])
+    -- a broadcast that sets bit 0 of the first word
     ∷ (0x02 ∷ 0x0E ∷ 0x20 ∷ 0x00 ∷ 0x06 ∷ 0x04 ∷ 0x01 ∷ 0x00 ∷ 0x00 ∷ 0x00 ∷ 0x00 ∷ 0x04 ∷ 0x01 ∷ 0x20 ∷ 0x00 ∷ 0x0A ∷ [], 2, [])
     -- a mirror
     ∷ (0x02 ∷ 0x03 ∷ 0x43 ∷ 0x55 ∷ 0x17 ∷ [], 1, 0x02 ∷ 0x03 ∷ 0x43 ∷ 0x55 ∷ 0x17 ∷ [])
@@ -72,10 +68,10 @@ abbrev pub awaited : List ℕ × ℕ × List ℕ → ℕ × List ℕ
 awaited c = (c .1, c .2)
 
 abbrev pub ran : Run
-ran = runOf setup table start (map (λ (c : List ℕ × ℕ × List ℕ). event (c .0)) calls)
+ran = runOf setup table start (map (λ (c : List ℕ × ℕ × List ℕ). eventOf (c .0)) calls)
 
 -- each call is answered so, one after another; the value left is the one that was changed, the control words are those of the
 -- last normal telegram with the broadcast's masked bits
-pub known-sequence : (map shown (ran .seen) ≡ map awaited calls) × (ran .last .values ≡ 6000 ∷ []) × (ran .last .control ≡ words 0x047F 0x2000)
+pub known-sequence : (map shown (ran .seen) ≡ map awaited calls) × (ran .last .values ≡ 6000 ∷ []) × (ran .last .control ≡ process)
 unfolding runOf callOf openingOf setupOk risingFrom eachOk runOk runsOk entryOf countOf signedOf numberOf atMost fitsIn isWithin entryOk entryAt entriesFrom entries findFrom countsOf executeOf xorAll frameOf addressOf normalCase mirrorCase broadcastCase commandAt taskDone controlTaken replyOf areaWords netOf valueAt areaAt processAt tasks taskOf pageOf verdictOf elementOf isVoid mergeOf controlAfter performOn foundOf performOf
 known-sequence = (refl, refl, refl)

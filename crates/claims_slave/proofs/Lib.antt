@@ -1,7 +1,9 @@
 -- The theorems about the slave call.
 pub mod Cases
 pub mod Kept
-pub mod Answered
+pub mod WhenAnswered
+pub mod Replied
+pub mod AnswerLines
 pub mod AnswerTable
 pub mod Sequences
 pub mod Damaged

@@ -2,11 +2,12 @@
 --     broadcastBit rx, mirrorBit rx    bits 5 and 6 of the address byte
 --     answerRows s t vs room rx        the lines 20 to 23 and 10 to 18: test and number
 --     acceptedNumber rx                0, 1, 2 where none of them holds: replied, mirrored, broadcast taken
-use Prim.Native.Nat.{ℕ, _+_, _-_, _*_, _/_, _%_}
+use Prim.Native.Nat.{ℕ, _+_, _-_, _*_, _%_}
 use mathlib.Core.Bool.{Bool, not, _&&_, _||_, cond}
 use mathlib.Core.List.{List, [], _∷_}
 use lib.Dec.{ltb, leb, eqb}
 use lib.ListN.{length, take}
+use Rattle.rows.specs.Bits.{bit}
 use Rattle.words.specs.Words.{byteAt}
 use Rattle.setup.specs.declared.Setup.{Setup}
 use Rattle.setup.specs.SetupRules.{setupOk}
@@ -16,10 +17,10 @@ use Rattle.broadcast.specs.Broadcast.{isVoid}
 use Rattle.slave.specs.Slave.{firstWord, commandAt}
 
 abbrev pub broadcastBit : List ℕ → Bool
-broadcastBit rx = eqb (byteAt rx 2 / 32 % 2) 1
+broadcastBit rx = eqb (bit 5 (byteAt rx 2)) 1
 
 abbrev pub mirrorBit : List ℕ → Bool
-mirrorBit rx = eqb (byteAt rx 2 / 64 % 2) 1
+mirrorBit rx = eqb (bit 6 (byteAt rx 2)) 1
 
 -- bit 7 of a byte: it is 128 or more
 abbrev pub topBit : List ℕ → Bool

@@ -5,12 +5,11 @@
 --     builtOf s r net out     the answer, the length and the buffer afterwards
 use mathlib.Core.Path.{_≡_}
 use Prim.Native.Nat.{ℕ, _+_, _*_, _%_}
-use mathlib.Core.Bool.{Bool, true, false, not, cond}
+use mathlib.Core.Bool.{not, cond}
 use mathlib.Core.List.{List, [], _∷_, _++_}
 use lib.Dec.{eqb, ltb}
 use lib.ListN.{length, drop}
 use Rattle.rows.specs.Rows.{firstOf}
-use Rattle.words.specs.declared.Words.{Words}
 use Rattle.setup.specs.declared.Setup.{Setup}
 use Rattle.setup.specs.SetupRules.{setupOk}
 use Rattle.net.specs.declared.Area.{Area}
@@ -48,11 +47,6 @@ telegramFor s (Task id number index value process) net = telegramOf (s .node) (n
 telegramFor s Mirror net = telegramOf (s .node + 64) net
 telegramFor s (Broadcast selector mask1 mask2 process) net = telegramOf 32 (netOf (commandArea (s .pkw) selector mask1 mask2) (s .pkw) process (s .pzd))
 
--- a writer that returns n leaves the telegram at the buffer's start
-pub record Sends (telegram out : List ℕ) (n : ℕ) (bytes : List ℕ) : Type 0 where
-  pub long : n ≡ length telegram
-  pub there : bytes ≡ telegram ++ drop (length telegram) out
-
 pub record BuildOutcome : Type 0 where
   pub built : Built
   pub out : List ℕ
@@ -69,6 +63,11 @@ unbuilt fault out = record { built = record { answer = Refused fault; length = 0
 -- only the telegram is written
 abbrev pub sent : List ℕ → List ℕ → BuildOutcome
 sent telegram out = record { built = record { answer = Done; length = length telegram }; out = telegram ++ drop (length telegram) out }
+
+-- a writer that returns n leaves the telegram so
+pub record Sends (telegram out : List ℕ) (n : ℕ) (bytes : List ℕ) : Type 0 where
+  pub long : n ≡ sent telegram out .built .length
+  pub there : bytes ≡ sent telegram out .out
 
 unfoldable pub builtOf : Setup → Request → List ℕ → List ℕ → BuildOutcome
 builtOf s r net out =

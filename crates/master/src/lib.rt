@@ -1,9 +1,8 @@
 // What a master builds (document 01, Answer numbers 30 to 32): the telegrams of tasks, mirrors and broadcasts.
 ghost use mathlib.Core.Path.{_≡_};
 ghost use mathlib.Core.Bool.{true};
-ghost use mathlib.Core.List.{_++_};
 ghost use Prim.Native.Nat.{_+_, _≤_};
-ghost use lib.ListN.{length, drop};
+ghost use lib.ListN.{length};
 ghost use Rattle.net.specs.Telegram.{telegramOf};
 ghost use Rattle.net.specs.Net.{netOf};
 ghost use Rattle.setup.specs.SetupRules.{setupOk};

@@ -5,15 +5,15 @@
 --     badReply pkw id .. a            33: whether the area a is not a reply to the task
 --     readOf s r rx                   the reading
 use Prim.Native.Nat.{ℕ, _+_, _-_, _/_, _%_}
-use mathlib.Core.Bool.{Bool, true, false, not, _&&_, _||_, cond}
+use mathlib.Core.Bool.{Bool, true, false, not, _||_, cond}
 use mathlib.Core.List.{List, [], _∷_}
 use lib.Dec.{eqb, ltb}
+use Rattle.rows.specs.Bits.{bit}
 use Rattle.rows.specs.Rows.{firstOf}
 use Rattle.words.specs.declared.Words.{Words}
 use Rattle.setup.specs.declared.Setup.{Setup}
 use Rattle.setup.specs.SetupRules.{setupOk, netBytes}
 use Rattle.frame.specs.Address.{decodedOf, faultNumber}
-use Rattle.frame.specs.declared.Fault.{Fault}
 use Rattle.frame.specs.declared.Fault.the-variants.{InAddress}
 use Rattle.frame.specs.declared.Decoded.{Decoded}
 use Rattle.frame.specs.declared.Decoded.the-variants.{Normal, Mirror as MirrorTelegram, Broadcast as BroadcastTelegram, Refused}
@@ -97,7 +97,7 @@ otherEcho number index a =
     ((not (eqb (baseOf (a .pke)) (number % 2000)), true)
     ∷ (not (eqb (a .ind / 4096) (nibbleOf number)), true)
     ∷ (not (eqb (a .ind % 256) index), true)
-    ∷ (not (eqb (a .pke / 2048 % 2) 0), true)
+    ∷ (not (eqb (bit 11 (a .pke)) 0), true)
     ∷ (not (eqb (a .ind / 256 % 16) 0), true)
     ∷ [])
     false
@@ -122,8 +122,8 @@ badReply pkw id number index a =
 -- ---- the reading
 
 -- what a reply to the task holds
-unfoldable pub contentOf : ℕ → Area → Content
-contentOf id a =
+unfoldable pub replyContent : ℕ → Area → Content
+replyContent id a =
     firstOf
     ((eqb id 0, Empty) ∷ (eqb (a .pke / 4096) 7, Failed (a .value % 65536)) ∷ (eqb (a .pke / 4096) 8, NoRight) ∷ [])
     (Value (a .pke / 4096) (a .value))
@@ -144,7 +144,7 @@ readNormal node n s id number index rx =
     ∷ (eqb (s .pkw) 0, record { answer = Read Empty; process = processAt rx (s .pkw) (s .pzd) zeroWords })
     ∷ (badReply (s .pkw) id number index (areaAt rx (s .pkw)), unread NotTheReply)
     ∷ [])
-    (record { answer = Read (contentOf id (areaAt rx (s .pkw))); process = processAt rx (s .pkw) (s .pzd) zeroWords })
+    (record { answer = Read (replyContent id (areaAt rx (s .pkw))); process = processAt rx (s .pkw) (s .pzd) zeroWords })
 
 -- 15 also for bits 5 or 6
 abbrev pub readDecoded : Decoded → Setup → ℕ → ℕ → ℕ → List ℕ → Reading

@@ -3,7 +3,7 @@ ghost use mathlib.Core.Path.{_≡_};
 ghost use mathlib.Core.Bool.{_||_};
 ghost use Prim.Native.Nat.{_≤_};
 ghost use lib.Dec.{eqb};
-ghost use Rattle.reply.specs.Reply.{inRow, knownId, misfit, notEmpty, otherEcho, badReply, contentOf, unread, readNormal, readTask, readOf};
+ghost use Rattle.reply.specs.Reply.{inRow, knownId, misfit, notEmpty, otherEcho, badReply, replyContent, unread, readNormal, readTask, readOf};
 use frame::Decoded;
 use frame::Fault;
 use net::Area;
@@ -147,7 +147,7 @@ fn is_bad(pkw: u8, id: u8, number: u16, index: u8, area: Area) -> bool
 
 // What the reply to a task holds.
 fn read_content(id: u8, area: Area) -> Content
-    ensures { λ r. ⌜ r ≡ contentOf id area ⌝ }
+    ensures { λ r. ⌜ r ≡ replyContent id area ⌝ }
 {
     let reply_id = (area.pke / 4096) as u8;
     if id == 0 {

@@ -1,5 +1,5 @@
 -- Tests in a row, of which each must hold. Assumes nothing.
-use mathlib.Core.Path.{_≡_, refl}
+use mathlib.Core.Path.{_≡_}
 use mathlib.Core.Bool.{Bool, true, false, _&&_}
 
 pub first-fails : (a b c d : Bool) → a ≡ false → (a && b && c && d) ≡ false

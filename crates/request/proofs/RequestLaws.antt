@@ -16,7 +16,7 @@ use Rattle.task.specs.declared.Task.{Task as TaskKind}
 use Rattle.task.specs.Task.{taskOf}
 use Rattle.task.proofs.TaskLaws.{refused-on}
 use Rattle.request.specs.declared.Request.the-variants.{Task, Mirror}
-use Rattle.request.specs.Request.{unusedZero, valueFits, taskFits, taskAskable, expressible}
+use Rattle.request.specs.Request.{unusedZero, valueFits, taskFits, expressible}
 
 -- ---- tasks
 

@@ -7,8 +7,8 @@
 --     taskAskable s id ..     a task request that can be asked
 --     expressible s r net     a request that can be asked; net are the net bytes of a mirror
 use Prim.Native.Nat.{ℕ}
-use mathlib.Core.Bool.{Bool, true, false, not, _&&_, _||_, cond}
-use mathlib.Core.List.{List, [], _∷_}
+use mathlib.Core.Bool.{Bool, false, not, _&&_, _||_, cond}
+use mathlib.Core.List.{List}
 use lib.Dec.{eqb, leb, ltb}
 use lib.ListN.{length}
 use Rattle.words.specs.declared.Words.{Words}

@@ -1,5 +1,5 @@
 -- What a compound test tells of its parts. Assumes nothing.
-use mathlib.Core.Path.{_≡_, refl, sym, _∙_}
+use mathlib.Core.Path.{_≡_, refl, sym}
 use mathlib.Core.Bool.{Bool, true, false, _&&_, _||_, cond, false≢true}
 
 pub and-left : (a b : Bool) → (a && b) ≡ true → a ≡ true

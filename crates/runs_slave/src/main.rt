@@ -1,7 +1,6 @@
 // Runs the slave call on telegrams of documents 000, 002 and 01, and writes a line for each: the set-up, the received bytes, document
 // 01's answer number, the reply's length and bytes, the control words, and each value place that is not as it was.
-use frame::Fault;
-use frame::FrameFault;
+use frame::number_fault;
 use net::Area;
 use opening::OpeningFault;
 use setup::Setup;
@@ -49,27 +48,10 @@ fn opening_number(fault: OpeningFault) -> u64 {
     }
 }
 
-fn frame_number(fault: FrameFault) -> u64 {
-    match fault {
-        FrameFault::Short => 10,
-        FrameFault::Start => 11,
-        FrameFault::Length => 12,
-        FrameFault::Count => 13,
-        FrameFault::Check => 14,
-    }
-}
-
-fn fault_number(fault: Fault) -> u64 {
-    match fault {
-        Fault::InFrame(fault) => frame_number(fault),
-        Fault::InAddress => 15,
-    }
-}
-
 fn refusal_number(refusal: Refusal) -> u64 {
     match refusal {
         Refusal::AtOpening(fault) => opening_number(fault),
-        Refusal::InTelegram(fault) => fault_number(fault),
+        Refusal::InTelegram(fault) => number_fault(fault) as u64,
         Refusal::OtherNode => 16,
         Refusal::OtherLength => 17,
         Refusal::VoidBroadcast => 18,

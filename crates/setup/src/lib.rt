@@ -15,14 +15,14 @@ pub fn setup_ok(setup: Setup) -> bool
     if 31 < setup.node {
         return false;
     }
+    if setup.pkw != 0 && setup.pkw != 3 && setup.pkw != 4 {
+        return false;
+    }
     if 4 < setup.pzd {
         return false;
     }
     if setup.pkw == 0 {
         return setup.pzd != 0;
     }
-    if setup.pkw == 3 {
-        return true;
-    }
-    setup.pkw == 4
+    true
 }

@@ -1,10 +1,11 @@
 // Tasks (document 01, Parameter area): what a task ID asks, the page nibble and the full number, and the errors of a task
 // on a parameter, in the document's order.
 ghost use mathlib.Core.Path.{_≡_};
-ghost use Rattle.task.specs.Task.{taskOf};
+ghost use Rattle.task.specs.Task.{task, taskOf};
+ghost use Rattle.task.specs.declared.Width.the-variants.{Word, Double};
 ghost use Rattle.task.specs.Page.{pageOf, nibbleOf, fullNumber};
 ghost use Rattle.task.specs.Verdict.{refusesAct, changesAct, countsAct, otherWidth, noArray, noElement, noRoom, verdictOf, errorNumber, elementOf};
-ghost use mathlib.Core.Bool.{_&&_};
+ghost use mathlib.Core.Bool.{cond};
 
 // What is to be done. Refuse is for the task IDs that error 106 answers.
 pub enum Act {
@@ -54,65 +55,39 @@ const PAGES: [u8; 16] = [0, 2, 4, 6, 8, 10, 12, 14, 1, 3, 5, 7, 9, 11, 13, 15];
 // The sixteen nibbles by their page.
 const NIBBLES: [u8; 16] = [0, 8, 1, 9, 2, 10, 3, 11, 4, 12, 5, 13, 6, 14, 7, 15];
 
+// A row of the task table.
+fn row(act: Act, width: Width, array: bool, reply: u8) -> Task
+    ensures { λ r. ⌜ r ≡ task act width array reply ⌝ }
+{
+    Task {
+        act,
+        width,
+        array,
+        reply,
+    }
+}
+
+// The width of a change of a word, or of a double.
+fn width_of(word: bool) -> Width
+    ensures { λ r. ⌜ r ≡ cond word Word Double ⌝ }
+{
+    if word { Width::Word } else { Width::Double }
+}
+
 // What the task ID asks; IDs over 15 do not occur and are refused like 15.
 pub fn task_of(id: u8) -> Task
     ensures { λ r. ⌜ r ≡ taskOf id ⌝ }
 {
     match id {
-        0..=0 => Task {
-            act: Act::Nothing,
-            width: Width::Either,
-            array: false,
-            reply: 0,
-        },
-        1..=1 => Task {
-            act: Act::Read,
-            width: Width::Either,
-            array: false,
-            reply: 1,
-        },
-        2..=3 => Task {
-            act: Act::Change,
-            width: if id == 2 { Width::Word } else { Width::Double },
-            array: false,
-            reply: id - 1,
-        },
-        6..=6 => Task {
-            act: Act::Read,
-            width: Width::Either,
-            array: true,
-            reply: 4,
-        },
-        7..=8 => Task {
-            act: Act::Change,
-            width: if id == 7 { Width::Word } else { Width::Double },
-            array: true,
-            reply: id - 3,
-        },
-        9..=9 => Task {
-            act: Act::Count,
-            width: Width::Either,
-            array: false,
-            reply: 6,
-        },
-        11..=12 => Task {
-            act: Act::Change,
-            width: if id == 12 { Width::Word } else { Width::Double },
-            array: true,
-            reply: 16 - id,
-        },
-        13..=14 => Task {
-            act: Act::Change,
-            width: if id == 14 { Width::Word } else { Width::Double },
-            array: false,
-            reply: 15 - id,
-        },
-        _ => Task {
-            act: Act::Refuse,
-            width: Width::Either,
-            array: false,
-            reply: 7,
-        },
+        0..=0 => row(Act::Nothing, Width::Either, false, 0),
+        1..=1 => row(Act::Read, Width::Either, false, 1),
+        2..=3 => row(Act::Change, width_of(id == 2), false, id - 1),
+        6..=6 => row(Act::Read, Width::Either, true, 4),
+        7..=8 => row(Act::Change, width_of(id == 7), true, id - 3),
+        9..=9 => row(Act::Count, Width::Either, false, 6),
+        11..=12 => row(Act::Change, width_of(id == 12), true, 16 - id),
+        13..=14 => row(Act::Change, width_of(id == 14), false, 15 - id),
+        _ => row(Act::Refuse, Width::Either, false, 7),
     }
 }
 
@@ -221,12 +196,6 @@ fn lacks_room(double: bool, n: u8, count: bool) -> bool
     double && (n == 3 && !count)
 }
 
-fn both(a: bool, b: bool) -> bool
-    ensures { λ r. ⌜ r ≡ (a && b) ⌝ }
-{
-    a && b
-}
-
 // The first error that applies to a task on a parameter that exists, in the document's order.
 pub fn judge(
     act: Act,
@@ -251,17 +220,21 @@ pub fn judge(
         return Verdict::Denied(ParameterError::NoElement);
     }
     let change = changes(act);
-    if both(change, differs(width, double)) {
-        return Verdict::Denied(ParameterError::OtherWidth);
+    if change {
+        if differs(width, double) {
+            return Verdict::Denied(ParameterError::OtherWidth);
+        }
     }
     if lacks_room(double, n, counts(act)) {
         return Verdict::Denied(ParameterError::NoRoom);
     }
-    if both(change, !writable) {
-        return Verdict::Denied(ParameterError::NotWritable);
-    }
-    if both(change, !inside) {
-        return Verdict::Denied(ParameterError::OutsideLimits);
+    if change {
+        if !writable {
+            return Verdict::Denied(ParameterError::NotWritable);
+        }
+        if !inside {
+            return Verdict::Denied(ParameterError::OutsideLimits);
+        }
     }
     Verdict::Granted
 }

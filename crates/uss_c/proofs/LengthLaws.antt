@@ -1,14 +1,14 @@
 -- Every length that a call returns fits in 32 bits: a telegram has at most 256 bytes, a listing 64. Assumes nothing.
-use mathlib.Core.Path.{_≡_, refl, sym, ap, _∙_}
+use mathlib.Core.Path.{_≡_, refl}
 use mathlib.Core.Bool.{Bool, true, false, not, cond}
 use mathlib.Core.List.{List, [], _∷_, _++_}
-use Prim.Native.Nat.{ℕ, zero, suc, _+_, _-_, _≤_, _<_}
+use Prim.Native.Nat.{ℕ, zero, suc, _+_, _-_, _≤_}
 use native.Mathlib.Omega.{arith}
 use lib.Dec.{lit≤, lit<, leb, ltb, eqb}
 use lib.ListN.{length, take, drop, length-take}
 use Rattle.rows.specs.Rows.{firstOf}
 use Rattle.rows.proofs.RowsLaws.{first-all}
-use Rattle.words.specs.Words.{byteAt, Bytes}
+use Rattle.words.specs.Words.{Bytes}
 use Rattle.words.specs.declared.Words.{Words}
 use Rattle.setup.specs.declared.Setup.{Setup}
 use Rattle.setup.specs.SetupRules.{setupOk, netBytes}
@@ -31,14 +31,14 @@ use Rattle.broadcast.specs.Broadcast.{isVoid, controlAfter}
 use Rattle.slave.specs.declared.Served.{Served}
 use Rattle.slave.specs.declared.Answer.the-variants.{Mirrored, Taken}
 use Rattle.slave.specs.declared.Refusal.the-variants.{OtherNode, OtherLength, VoidBroadcast}
-use Rattle.slave.specs.Slave.{Outcome, Sent, refusedServed, refusedOf, written, firstWord, commandAt, taskDone, replyOf, normalOutcome, normalCase, mirrorCase, broadcastCase, executeDecoded, executeOf, callOpened, callOf}
-use Rattle.slave.proofs.CaseLaws.{executed, called}
+use Rattle.slave.specs.Slave.{Outcome, Sent, refusedServed, refusedOf, written, firstWord, commandAt, taskDone, replyOf, normalOutcome, normalCase, mirrorCase, broadcastCase, executeDecoded, callOpened, callOf}
+use Rattle.slave.proofs.CaseLaws.{executed}
 use Rattle.request.specs.declared.Request.{Request}
 use Rattle.request.specs.declared.Request.the-variants.{Task, Mirror as MirrorOf, Broadcast as BroadcastOf}
 use Rattle.request.specs.Request.{expressible}
 use Rattle.request.proofs.RequestLaws.{mirror-asked}
 use Rattle.master.specs.declared.BuildFault.the-variants.{BadSetup, NotExpressible, ShortBuffer}
-use Rattle.master.specs.Build.{BuildOutcome, taskArea, commandArea, telegramFor, unbuilt, sent, builtOf}
+use Rattle.master.specs.Build.{taskArea, commandArea, telegramFor, unbuilt, sent, builtOf}
 use Rattle.store.specs.Placed.{Placed, putOut}
 use Rattle.listing.specs.Listing.{listing, listedOf}
 use Rattle.listing.proofs.LengthLaws.{listing-most}

@@ -1,5 +1,5 @@
 -- The contracts for C determine what a call returns and leaves: two outcomes that both meet one are equal. Assumes nothing.
-use mathlib.Core.Path.{_≡_, refl, sym, ap, _∙_}
+use mathlib.Core.Path.{_≡_, sym, ap, _∙_}
 use mathlib.Core.List.{List}
 use Prim.Native.Nat.{ℕ}
 use Rattle.slave.specs.Slave.{Outcome}

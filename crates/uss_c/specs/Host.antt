@@ -1,5 +1,5 @@
 -- The calls for C in terms of the crates that do the work: structs field by field, answers as the document's numbers.
---     setupOf s, wordsOf w     a struct that comes in
+--     setupOf s, ownWords w    a struct that comes in
 --     hostWords w              four words that go out
 --     SlaveLeaves o r vs out   a slave call that returns r leaves the values vs and the buffer out, as the outcome o says
 --     BuildLeaves o r out      the same for a build
@@ -22,8 +22,8 @@ use Rattle.uss_c.specs.declared.UssReply.{UssReply}
 abbrev pub setupOf : UssSetup → Setup
 setupOf s = record { node = s .node; pkw = s .pkw; pzd = s .pzd }
 
-abbrev pub wordsOf : UssWords → Words
-wordsOf w = record { w1 = w .w1; w2 = w .w2; w3 = w .w3; w4 = w .w4 }
+abbrev pub ownWords : UssWords → Words
+ownWords w = record { w1 = w .w1; w2 = w .w2; w3 = w .w3; w4 = w .w4 }
 
 abbrev pub hostWords : Words → UssWords
 hostWords w = record { w1 = w .w1; w2 = w .w2; w3 = w .w3; w4 = w .w4 }

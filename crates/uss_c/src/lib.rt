@@ -22,7 +22,7 @@ ghost use Rattle.slave.specs.Slave.{refusalNumber, answerNumber, callOf};
 ghost use Rattle.master.specs.Build.{buildNumber, builtNumber, builtOf};
 ghost use Rattle.reply.specs.Reply.{readFaultNumber, contentId, contentValue, readNumber, readId, readValue, readOf};
 ghost use Rattle.listing.specs.Listing.{listedOf};
-ghost use Rattle.uss_c.specs.Host.{setupOf, wordsOf, hostWords, SlaveLeaves, BuildLeaves, ReplyGives};
+ghost use Rattle.uss_c.specs.Host.{setupOf, ownWords, hostWords, SlaveLeaves, BuildLeaves, ReplyGives};
 
 // ---- the structs that cross
 
@@ -73,7 +73,7 @@ fn take_setup(setup: UssSetup) -> Setup
 }
 
 fn take_words(words: UssWords) -> Words
-    ensures { λ r. ⌜ r ≡ wordsOf words ⌝ }
+    ensures { λ r. ⌜ r ≡ ownWords words ⌝ }
 {
     Words {
         w1: words.w1,
@@ -229,7 +229,7 @@ pub extern "C" fn uss_slave(
     received: &[u8],
     reply: &mut [u8],
 ) -> UssAnswer
-    ensures { λ r. ⌜ SlaveLeaves (callOf (setupOf setup) (now (table .entry)) (now (values .entry)) (wordsOf control) (wordsOf status) (now (received .entry)) (now (reply .entry))) r (now (values .exit)) (now (reply .exit)) ⌝ }
+    ensures { λ r. ⌜ SlaveLeaves (callOf (setupOf setup) (now (table .entry)) (now (values .entry)) (ownWords control) (ownWords status) (now (received .entry)) (now (reply .entry))) r (now (values .exit)) (now (reply .exit)) ⌝ }
 {
     let served = slave::serve(
         take_setup(setup),
@@ -251,7 +251,7 @@ pub extern "C" fn uss_slave(
 // ---- the master
 
 fn ask_task(task: u8, parameter: u16, index: u8, value: u32, process: UssWords) -> Request
-    ensures { λ r. ⌜ r ≡ Task task parameter index value (wordsOf process) ⌝ }
+    ensures { λ r. ⌜ r ≡ Task task parameter index value (ownWords process) ⌝ }
 {
     Request::Task {
         id: task,
@@ -284,7 +284,7 @@ pub extern "C" fn uss_build_task(
     process: UssWords,
     out: &mut [u8],
 ) -> UssBuilt
-    ensures { λ r. ⌜ BuildLeaves (builtOf (setupOf setup) (Task task parameter index value (wordsOf process)) [] (now (out .entry))) r (now (out .exit)) ⌝ }
+    ensures { λ r. ⌜ BuildLeaves (builtOf (setupOf setup) (Task task parameter index value (ownWords process)) [] (now (out .entry))) r (now (out .exit)) ⌝ }
 {
     let request = ask_task(task, parameter, index, value, process);
     build(take_setup(setup), request, b"", out)
@@ -306,7 +306,7 @@ pub extern "C" fn uss_build_broadcast(
     process: UssWords,
     out: &mut [u8],
 ) -> UssBuilt
-    ensures { λ r. ⌜ BuildLeaves (builtOf (setupOf setup) (Broadcast selector mask1 mask2 (wordsOf process)) [] (now (out .entry))) r (now (out .exit)) ⌝ }
+    ensures { λ r. ⌜ BuildLeaves (builtOf (setupOf setup) (Broadcast selector mask1 mask2 (ownWords process)) [] (now (out .entry))) r (now (out .exit)) ⌝ }
 {
     let request = Request::Broadcast {
         selector,
@@ -327,7 +327,7 @@ pub extern "C" fn uss_read_reply(
     process: UssWords,
     received: &[u8],
 ) -> UssReply
-    ensures { λ r. ⌜ ReplyGives (readOf (setupOf setup) (Task task parameter index value (wordsOf process)) (now (received .entry))) r ⌝ }
+    ensures { λ r. ⌜ ReplyGives (readOf (setupOf setup) (Task task parameter index value (ownWords process)) (now (received .entry))) r ⌝ }
 {
     let reading = reply::read(
         take_setup(setup),

@@ -7,15 +7,12 @@ use Rattle.broadcast.proofs.command_control.Reads as reads
 use Rattle.broadcast.proofs.command_control.Lts as lts
 use Rattle.broadcast.proofs.merge_selected.Reads as merge-selected-reads
 
--- src/lib.rt:69:9
 merge-selected-requires : tie.Need-merge-selected-requires
 merge-selected-requires c κs = search needs
 
--- src/lib.rt:70:9
 merge-selected-requires-2 : tie.Need-merge-selected-requires-2
 merge-selected-requires-2 c κs = search needs
 
--- src/lib.rt:65:1
 returns : tie.Need-returns
 unfolding controlAfter
 returns c = rw (c .before .merge-selected .ensures, c .merge-selected2 .ensures)

@@ -1,4 +1,5 @@
 -- `broadcast::is_void` meets its contract: at each `return` the tests that led there pick the row. Assumes nothing.
+use mathlib.Core.Logic.{⊎-elim}
 use Rattle.rows.proofs.RowsLaws.{tests}
 use Rattle.broadcast.specs.Broadcast.{isVoid}
 use Rattle.broadcast.proofs.is_void.Statement.{statement}
@@ -6,60 +7,45 @@ use Rattle.broadcast.proofs.is_void.Tie as tie
 use Rattle.broadcast.proofs.is_void.Reads as reads
 use Rattle.broadcast.proofs.is_void.Lts as lts
 
--- src/lib.rt:20:9
 returns : tie.Need-returns
 unfolding isVoid
 returns c = search tests
 
--- src/lib.rt:23:9
 returns-2 : tie.Need-returns-2
 unfolding isVoid
 returns-2 c = search tests
 
--- src/lib.rt:26:9
 returns-3 : tie.Need-returns-3
 unfolding isVoid
 returns-3 c = search tests
 
--- src/lib.rt:29:9
 returns-4 : tie.Need-returns-4
 unfolding isVoid
 returns-4 c = search tests
 
--- src/lib.rt:32:9
 returns-5 : tie.Need-returns-5
 unfolding isVoid
 returns-5 c = search tests
 
--- src/lib.rt:35:9
 returns-6 : tie.Need-returns-6
 unfolding isVoid
 returns-6 c = search tests
 
--- src/lib.rt:38:9
 returns-7 : tie.Need-returns-7
 unfolding isVoid
 returns-7 c = search tests
 
--- src/lib.rt:41:9
 returns-8 : tie.Need-returns-8
 unfolding isVoid
 returns-8 c = search tests
 
--- src/lib.rt:45:13
 returns-9 : tie.Need-returns-9
 unfolding isVoid
-returns-9 c = search tests
+returns-9 c = ⊎-elim (λ w. search tests) (λ w. search tests) (c .before .before .if8 .came)
 
--- src/lib.rt:15:1
 returns-10 : tie.Need-returns-10
 unfolding isVoid
-returns-10 c = search tests
-
--- src/lib.rt:15:1
-returns-11 : tie.Need-returns-11
-unfolding isVoid
-returns-11 c = search tests
+returns-10 c = ⊎-elim (λ w. search tests) (λ w. search tests) (c .before .before .if8 .came)
 
 pub is-void-spec : {M : Type 1} → statement M
 is-void-spec =
@@ -74,5 +60,4 @@ is-void-spec =
     returns-7
     returns-8
     returns-9
-    returns-10
-    returns-11)
+    returns-10)

@@ -1,5 +1,5 @@
 -- `broadcast::merge` meets its contract. Assumes nothing.
-use mathlib.Core.Path.{_≡_, refl, sym, ap, _∙_}
+use mathlib.Core.Path.{refl}
 use Rattle.broadcast.specs.Broadcast.{mergeOf}
 use borrow.Author.Needs.{needs}
 use Rattle.broadcast.proofs.merge.Statement.{statement}
@@ -7,11 +7,9 @@ use Rattle.broadcast.proofs.merge.Tie as tie
 use Rattle.broadcast.proofs.merge.Reads as reads
 use Rattle.broadcast.proofs.merge.Lts as lts
 
--- src/lib.rt:55:13
 sub-result : tie.Need-sub-result
 sub-result c = search needs
 
--- src/lib.rt:52:1
 returns : tie.Need-returns
 unfolding mergeOf
 returns c = refl

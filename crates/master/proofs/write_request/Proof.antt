@@ -1,5 +1,5 @@
 -- `master::write_request` meets its contract. Assumes nothing.
-use mathlib.Core.Path.{_≡_, refl, sym, ap, _∙_}
+use mathlib.Core.Path.{_≡_}
 use mathlib.Core.Bool.{true}
 use native.Mathlib.Omega.{arith}
 use Rattle.setup.proofs.SetupLaws.{configured}
@@ -15,11 +15,9 @@ use Rattle.master.proofs.write_broadcast.Reads as write-broadcast-reads
 use Rattle.master.proofs.write_mirror.Reads as write-mirror-reads
 use Rattle.master.proofs.write_task.Reads as write-task-reads
 
--- src/lib.rt:98:13
 enum-known-request : tie.Need-enum-known-request
 enum-known-request c = search needs
 
--- src/lib.rt:103:14
 write-task-requires : tie.Need-write-task-requires
 write-task-requires c κs =
     let s = c .before .before .before .before .before .before in
@@ -27,11 +25,9 @@ write-task-requires c κs =
     let e : expressible (a .setup) _ (a .net .now) ≡ true = rw (c .before .before .request .given .1) at (s .pre .1) in
     (s .pre .0, s .pre .2, omega (arith, task-id (a .setup) _ _ _ _ _ (a .net .now) e))
 
--- src/lib.rt:104:58
 enum-told : tie.Need-enum-told
 enum-told c = search needs
 
--- src/lib.rt:104:28
 write-mirror-requires : tie.Need-write-mirror-requires
 write-mirror-requires c κs =
     let s = c .before .before .before .before .before in
@@ -39,37 +35,29 @@ write-mirror-requires c κs =
     let m = mirror-asked (a .setup) (a .net .now) (rw (c .before .enum-told .given .1) at (s .pre .1)) in
     (configured (a .setup) (s .pre .0) .nodes, s .pre .2, m .0, m .1)
 
--- src/lib.rt:106:13
 enum-known-request-2 : tie.Need-enum-known-request-2
 enum-known-request-2 c = search needs
 
--- src/lib.rt:110:14
 write-broadcast-requires : tie.Need-write-broadcast-requires
 write-broadcast-requires c κs = search needs
 
--- src/lib.rt:92:1
 same-length : tie.Need-same-length
 same-length c = search needs
 
--- src/lib.rt:92:1
 returns : tie.Need-returns
 unfolding telegramFor
 returns c = rw (c .before .before .before .before .before .request .given .1) (c .before .before .write-task .ensures)
 
--- src/lib.rt:92:1
 same-length-2 : tie.Need-same-length-2
 same-length-2 c = search needs
 
--- src/lib.rt:92:1
 returns-2 : tie.Need-returns-2
 unfolding telegramFor
 returns-2 c = rw (c .before .before .before .before .enum-told .given .1) (c .before .before .write-mirror .ensures)
 
--- src/lib.rt:92:1
 same-length-3 : tie.Need-same-length-3
 same-length-3 c = search needs
 
--- src/lib.rt:92:1
 returns-3 : tie.Need-returns-3
 unfolding telegramFor
 returns-3 c = rw (c .before .before .before .before .before .request2 .given .1) (c .before .before .write-broadcast .ensures)

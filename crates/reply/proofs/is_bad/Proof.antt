@@ -1,8 +1,8 @@
 -- `reply::is_bad` meets its contract: the tests that led to a `return` pick its row. Assumes nothing.
-use mathlib.Core.Path.{_≡_, refl, sym, ap, _∙_}
+use mathlib.Core.Path.{_≡_, sym, _∙_}
 use mathlib.Core.Bool.{true, false, not}
 use Prim.Native.Nat.{_/_}
-use borrow.Author.Tests.{not-true, not-false, eq-eqb, ne-eqb, lt-ltb, le-ltb}
+use borrow.Author.Tests.{not-true, not-false, eq-eqb, ne-eqb}
 use Rattle.reply.specs.Reply.{knownId, badReply}
 use borrow.Author.Needs.{needs}
 use Rattle.reply.proofs.is_bad.Statement.{statement}
@@ -17,44 +17,35 @@ use Rattle.reply.proofs.is_other.Reads as is-other-reads
 known : (c : tie.After-is-known) → not (c .is-known .result) ≡ false → (let a = c .before .before .before .args in knownId (a .id) (a .area .pke / 4096) ≡ true)
 known c h = sym (c .is-known .ensures) ∙ not-false _ h
 
--- src/lib.rt:130:9
 is-not-empty-requires : tie.Need-is-not-empty-requires
 is-not-empty-requires c κs = search needs
 
--- src/lib.rt:130:9
 returns : tie.Need-returns
 unfolding badReply
 returns c = rw (eq-eqb _ _ (c .before .if1 .taken)) (c .is-not-empty .ensures)
 
--- src/lib.rt:132:20
 cast-reply-id : tie.Need-cast-reply-id
 cast-reply-id c = search needs
 
--- src/lib.rt:133:9
 is-known-requires : tie.Need-is-known-requires
 is-known-requires c κs = search needs
 
--- src/lib.rt:134:9
 returns-2 : tie.Need-returns-2
 unfolding badReply
 returns-2 c = sym (rw (ne-eqb _ _ (c .before .before .before .if1 .left), sym (c .before .is-known .ensures) ∙ not-true _ (c .if2 .taken)))
 
--- src/lib.rt:136:8
 is-misfit-requires : tie.Need-is-misfit-requires
 is-misfit-requires c κs = search needs
 
--- src/lib.rt:137:9
 returns-3 : tie.Need-returns-3
 unfolding badReply
 returns-3 c =
     let k = c .before .before .before in
     sym (rw (ne-eqb _ _ (k .before .before .if1 .left), known k (c .before .before .if2 .left), sym (c .before .is-misfit .ensures) ∙ c .if3 .taken))
 
--- src/lib.rt:139:8
 is-other-requires : tie.Need-is-other-requires
 is-other-requires c κs = search needs
 
--- src/lib.rt:140:9
 returns-4 : tie.Need-returns-4
 unfolding badReply
 returns-4 c =
@@ -62,7 +53,6 @@ returns-4 c =
     let k = m .before .before in
     sym (rw (ne-eqb _ _ (k .before .before .if1 .left), known k (m .before .if2 .left), sym (m .is-misfit .ensures) ∙ c .before .before .if3 .left, sym (c .before .is-other .ensures) ∙ c .if4 .taken))
 
--- src/lib.rt:143:9
 returns-5 : tie.Need-returns-5
 unfolding badReply
 returns-5 c =
@@ -71,7 +61,6 @@ returns-5 c =
     let k = m .before .before in
     sym (rw (ne-eqb _ _ (k .before .before .if1 .left), known k (m .before .if2 .left), sym (m .is-misfit .ensures) ∙ o .before .if3 .left, sym (o .is-other .ensures) ∙ c .before .before .if4 .left, eq-eqb _ _ (c .before .if5 .taken)))
 
--- src/lib.rt:126:1
 returns-6 : tie.Need-returns-6
 unfolding badReply
 returns-6 c =

@@ -1,5 +1,4 @@
 -- `reply::is_in_row` meets its contract. Assumes nothing.
-use mathlib.Core.Path.{_≡_, refl, sym, ap, _∙_}
 use borrow.Author.Needs.{needs}
 use Rattle.reply.proofs.is_in_row.Statement.{statement}
 use Rattle.reply.proofs.is_in_row.Tie as tie
@@ -7,51 +6,39 @@ use Rattle.reply.proofs.is_in_row.Reads as reads
 use Rattle.reply.proofs.is_in_row.Lts as lts
 use Rattle.reply.proofs.is_one_of.Reads as is-one-of-reads
 
--- src/lib.rt:63:25
 enum-told : tie.Need-enum-told
 enum-told c = search needs
 
--- src/lib.rt:64:43
 enum-told-2 : tie.Need-enum-told-2
 enum-told-2 c = search needs
 
--- src/lib.rt:64:43
 add-is-one-of : tie.Need-add-is-one-of
 add-is-one-of c = search needs
 
--- src/lib.rt:64:22
 is-one-of-requires : tie.Need-is-one-of-requires
 is-one-of-requires c κs = search needs
 
--- src/lib.rt:65:24
 enum-told-3 : tie.Need-enum-told-3
 enum-told-3 c = search needs
 
--- src/lib.rt:66:23
 enum-told-4 : tie.Need-enum-told-4
 enum-told-4 c = search needs
 
--- src/lib.rt:67:24
 enum-told-5 : tie.Need-enum-told-5
 enum-told-5 c = search needs
 
--- src/lib.rt:58:1
 returns : tie.Need-returns
 returns c = search needs
 
--- src/lib.rt:58:1
 returns-2 : tie.Need-returns-2
 returns-2 c = rw (c .before .enum-told2 .given .1) (c .is-one-of .ensures)
 
--- src/lib.rt:58:1
 returns-3 : tie.Need-returns-3
 returns-3 c = rw (c .enum-told3 .given .1)
 
--- src/lib.rt:58:1
 returns-4 : tie.Need-returns-4
 returns-4 c = rw (c .enum-told4 .given .1)
 
--- src/lib.rt:58:1
 returns-5 : tie.Need-returns-5
 returns-5 c = search needs
 

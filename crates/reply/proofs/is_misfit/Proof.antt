@@ -1,5 +1,5 @@
 -- `reply::is_misfit` meets its contract. Assumes nothing.
-use mathlib.Core.Path.{_≡_, refl, sym, ap, _∙_}
+use mathlib.Core.Path.{sym, _∙_}
 use Rattle.reply.specs.Reply.{misfit}
 use borrow.Author.Needs.{needs}
 use Rattle.reply.proofs.is_misfit.Statement.{statement}
@@ -8,16 +8,13 @@ use Rattle.reply.proofs.is_misfit.Reads as reads
 use Rattle.reply.proofs.is_misfit.Lts as lts
 use Rattle.reply.proofs.is_one_of.Reads as is-one-of-reads
 
--- src/lib.rt:87:8
 is-one-of-requires : tie.Need-is-one-of-requires
 is-one-of-requires c κs = search needs
 
--- src/lib.rt:88:9
 returns : tie.Need-returns
 unfolding misfit
 returns c = sym (rw (sym (c .before .is-one-of .ensures) ∙ c .if1 .taken))
 
--- src/lib.rt:84:1
 returns-2 : tie.Need-returns-2
 unfolding misfit
 returns-2 c = sym (rw (sym (c .before .is-one-of .ensures) ∙ c .if1 .left))

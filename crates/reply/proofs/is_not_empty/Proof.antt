@@ -1,7 +1,7 @@
 -- `reply::is_not_empty` meets its contract. Assumes nothing.
-use mathlib.Core.Path.{_≡_, refl, sym, ap, _∙_}
+use mathlib.Core.Path.{sym}
 use Rattle.rows.proofs.RowsLaws.{tests}
-use borrow.Author.Tests.{not-true, not-false, eq-eqb, ne-eqb, lt-ltb, le-ltb}
+use borrow.Author.Tests.{eq-eqb}
 use mathlib.Core.Bool.{not}
 use lib.Dec.{eqb}
 use Rattle.rows.proofs.BoolLaws.{cond-same}
@@ -11,17 +11,14 @@ use Rattle.reply.proofs.is_not_empty.Tie as tie
 use Rattle.reply.proofs.is_not_empty.Reads as reads
 use Rattle.reply.proofs.is_not_empty.Lts as lts
 
--- src/lib.rt:98:9
 returns : tie.Need-returns
 unfolding notEmpty
 returns c = search tests
 
--- src/lib.rt:101:9
 returns-2 : tie.Need-returns-2
 unfolding notEmpty
 returns-2 c = search tests
 
--- src/lib.rt:94:1
 returns-3 : tie.Need-returns-3
 unfolding notEmpty
 returns-3 c =

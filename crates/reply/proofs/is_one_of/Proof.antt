@@ -1,16 +1,13 @@
 -- `reply::is_one_of` meets its contract. Assumes nothing.
-use mathlib.Core.Path.{_≡_, refl, sym, ap, _∙_}
-use borrow.Author.Tests.{not-true, not-false, eq-eqb, ne-eqb, lt-ltb, le-ltb}
+use borrow.Author.Tests.{eq-eqb, ne-eqb}
 use Rattle.reply.proofs.is_one_of.Statement.{statement}
 use Rattle.reply.proofs.is_one_of.Tie as tie
 use Rattle.reply.proofs.is_one_of.Reads as reads
 use Rattle.reply.proofs.is_one_of.Lts as lts
 
--- src/lib.rt:52:9
 returns : tie.Need-returns
 returns c = rw (eq-eqb _ _ (c .if1 .taken))
 
--- src/lib.rt:48:1
 returns-2 : tie.Need-returns-2
 returns-2 c = rw (ne-eqb _ _ (c .if1 .left))
 

@@ -1,7 +1,7 @@
 -- `reply::is_other` meets its contract. Assumes nothing.
-use mathlib.Core.Path.{_≡_, refl, sym, ap, _∙_}
+use mathlib.Core.Path.{sym}
 use Rattle.rows.proofs.RowsLaws.{tests}
-use borrow.Author.Tests.{not-true, not-false, eq-eqb, ne-eqb, lt-ltb, le-ltb}
+use borrow.Author.Tests.{eq-eqb}
 use mathlib.Core.Bool.{not}
 use Prim.Native.Nat.{_/_, _%_}
 use lib.Dec.{eqb}
@@ -14,35 +14,28 @@ use Rattle.reply.proofs.is_other.Reads as reads
 use Rattle.reply.proofs.is_other.Lts as lts
 use Rattle.task.proofs.nibble_of.Reads as nibble-of-reads
 
--- src/lib.rt:111:9
 returns : tie.Need-returns
 unfolding otherEcho
 returns c = search tests
 
--- src/lib.rt:113:27
 nibble-of-requires : tie.Need-nibble-of-requires
 nibble-of-requires c κs = search needs
 
--- src/lib.rt:113:27
 cast-if2 : tie.Need-cast-if2
 cast-if2 c = search needs
 
--- src/lib.rt:114:9
 returns-2 : tie.Need-returns-2
 unfolding otherEcho
 returns-2 c = search (tests, ← (c .before .nibble-of .ensures))
 
--- src/lib.rt:117:9
 returns-3 : tie.Need-returns-3
 unfolding otherEcho
 returns-3 c = search (tests, ← (c .before .before .before .nibble-of .ensures))
 
--- src/lib.rt:120:9
 returns-4 : tie.Need-returns-4
 unfolding otherEcho
 returns-4 c = search (tests, ← (c .before .before .before .before .before .nibble-of .ensures))
 
--- src/lib.rt:107:1
 returns-5 : tie.Need-returns-5
 unfolding otherEcho
 returns-5 c =

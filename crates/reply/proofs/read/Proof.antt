@@ -1,6 +1,6 @@
 -- `reply::read` meets its contract. Assumes nothing.
-use mathlib.Core.Path.{_≡_, refl, sym, ap, _∙_}
-use borrow.Author.Tests.{not-true, not-false, eq-eqb, ne-eqb, lt-ltb, le-ltb}
+use mathlib.Core.Path.{sym, _∙_}
+use borrow.Author.Tests.{not-true, not-false}
 use Rattle.reply.specs.Reply.{readOf}
 use borrow.Author.Needs.{needs}
 use Rattle.reply.proofs.read.Statement.{statement}
@@ -12,32 +12,25 @@ use Rattle.reply.proofs.refuse.Reads as refuse-reads
 use Rattle.request.proofs.can_ask.Reads as can-ask-reads
 use Rattle.setup.proofs.setup_ok.Reads as setup-ok-reads
 
--- src/lib.rt:245:9
 setup-ok-requires : tie.Need-setup-ok-requires
 setup-ok-requires c κs = search needs
 
--- src/lib.rt:246:9
 refuse-requires : tie.Need-refuse-requires
 refuse-requires c κs = search needs
 
--- src/lib.rt:246:9
 returns : tie.Need-returns
 unfolding readOf
 returns c = c .refuse .ensures ∙ sym (rw (sym (c .before .before .setup-ok .ensures) ∙ not-true _ (c .before .if1 .taken)))
 
--- src/lib.rt:250:13
 enum-known-request : tie.Need-enum-known-request
 enum-known-request c = search needs
 
--- src/lib.rt:256:16
 can-ask-requires : tie.Need-can-ask-requires
 can-ask-requires c κs = search needs
 
--- src/lib.rt:257:17
 read-task-requires : tie.Need-read-task-requires
 read-task-requires c κs = search needs
 
--- src/lib.rt:257:17
 returns-2 : tie.Need-returns-2
 unfolding readOf
 returns-2 c =
@@ -45,27 +38,21 @@ returns-2 c =
     let e = k .before .before .before .before in
     c .read-task .ensures ∙ sym (rw (sym (e .before .setup-ok .ensures) ∙ not-false _ (e .if1 .left), k .before .before .request .given .1, sym (k .can-ask .ensures) ∙ c .before .if2 .taken))
 
--- src/lib.rt:259:13
 refuse-requires-2 : tie.Need-refuse-requires-2
 refuse-requires-2 c κs = search needs
 
--- src/lib.rt:261:35
 enum-told : tie.Need-enum-told
 enum-told c = search needs
 
--- src/lib.rt:261:28
 refuse-requires-3 : tie.Need-refuse-requires-3
 refuse-requires-3 c κs = search needs
 
--- src/lib.rt:267:21
 enum-told-2 : tie.Need-enum-told-2
 enum-told-2 c = search needs
 
--- src/lib.rt:267:14
 refuse-requires-4 : tie.Need-refuse-requires-4
 refuse-requires-4 c κs = search needs
 
--- src/lib.rt:242:1
 returns-3 : tie.Need-returns-3
 unfolding readOf
 returns-3 c =
@@ -73,14 +60,12 @@ returns-3 c =
     let e = k .before .before .before .before in
     c .refuse2 .ensures ∙ sym (rw (sym (e .before .setup-ok .ensures) ∙ not-false _ (e .if1 .left), k .before .before .request .given .1, sym (k .can-ask .ensures) ∙ c .before .if2 .left))
 
--- src/lib.rt:242:1
 returns-4 : tie.Need-returns-4
 unfolding readOf
 returns-4 c =
     let e = c .before .before .before in
     c .refuse3 .ensures ∙ sym (rw (sym (e .before .setup-ok .ensures) ∙ not-false _ (e .if1 .left), c .before .enum-told .given .1))
 
--- src/lib.rt:242:1
 returns-5 : tie.Need-returns-5
 unfolding readOf
 returns-5 c =

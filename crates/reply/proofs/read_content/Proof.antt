@@ -1,39 +1,32 @@
 -- `reply::read_content` meets its contract. Assumes nothing.
-use mathlib.Core.Path.{_≡_, refl, sym, ap, _∙_}
 use Rattle.rows.proofs.RowsLaws.{tests}
-use Rattle.reply.specs.Reply.{contentOf}
+use Rattle.reply.specs.Reply.{replyContent}
 use borrow.Author.Needs.{needs}
 use Rattle.reply.proofs.read_content.Statement.{statement}
 use Rattle.reply.proofs.read_content.Tie as tie
 use Rattle.reply.proofs.read_content.Reads as reads
 use Rattle.reply.proofs.read_content.Lts as lts
 
--- src/lib.rt:152:20
 cast-reply-id : tie.Need-cast-reply-id
 cast-reply-id c = search needs
 
--- src/lib.rt:154:9
 returns : tie.Need-returns
-unfolding contentOf
+unfolding replyContent
 returns c = search tests
 
--- src/lib.rt:157:41
 cast-t7 : tie.Need-cast-t7
 cast-t7 c = search needs
 
--- src/lib.rt:157:9
 returns-2 : tie.Need-returns-2
-unfolding contentOf
+unfolding replyContent
 returns-2 c = search tests
 
--- src/lib.rt:160:9
 returns-3 : tie.Need-returns-3
-unfolding contentOf
+unfolding replyContent
 returns-3 c = search tests
 
--- src/lib.rt:149:1
 returns-4 : tie.Need-returns-4
-unfolding contentOf
+unfolding replyContent
 returns-4 c = search tests
 
 pub read-content-spec : {M : Type 1} → statement M

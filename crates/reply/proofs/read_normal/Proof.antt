@@ -1,7 +1,7 @@
 -- `reply::read_normal` meets its contract. Assumes nothing.
-use mathlib.Core.Path.{_≡_, refl, sym, ap, _∙_}
+use mathlib.Core.Path.{_≡_, sym, _∙_}
 use Rattle.rows.proofs.RowsLaws.{tests}
-use borrow.Author.Tests.{not-true, not-false, eq-eqb, ne-eqb, lt-ltb, le-ltb}
+use borrow.Author.Tests.{eq-eqb, ne-eqb}
 use Rattle.net.specs.Read.{areaAt}
 use Rattle.reply.specs.Reply.{badReply, readNormal}
 use borrow.Author.Needs.{needs}
@@ -18,64 +18,50 @@ use Rattle.reply.proofs.refuse.Reads as refuse-reads
 bad : (c : tie.After-is-bad) → (let a = c .before .before .before .before .before .before .before .before .before .before .before .args in badReply (a .setup .pkw) (a .id) (a .number) (a .index) (areaAt (a .received .now) (a .setup .pkw)) ≡ c .is-bad .result)
 bad c = sym (c .is-bad .ensures ∙ rw (c .before .read-area .ensures))
 
--- src/lib.rt:194:9
 refuse-requires : tie.Need-refuse-requires
 refuse-requires c κs = search needs
 
--- src/lib.rt:194:9
 returns : tie.Need-returns
 unfolding readNormal
 returns c = search (tests, c .refuse .ensures)
 
--- src/lib.rt:196:15
 cast-if2 : tie.Need-cast-if2
 cast-if2 c = search needs
 
--- src/lib.rt:196:38
 cast-if2-2 : tie.Need-cast-if2-2
 cast-if2-2 c = search needs
 
--- src/lib.rt:196:14
 add-if2 : tie.Need-add-if2
 add-if2 c = search needs
 
--- src/lib.rt:196:13
 mul-if2 : tie.Need-mul-if2
 mul-if2 c = search needs
 
--- src/lib.rt:197:9
 refuse-requires-2 : tie.Need-refuse-requires-2
 refuse-requires-2 c κs = search needs
 
--- src/lib.rt:197:9
 returns-2 : tie.Need-returns-2
 unfolding readNormal
 returns-2 c = search (tests, c .refuse2 .ensures)
 
--- src/lib.rt:205:9
 read-process-requires : tie.Need-read-process-requires
 read-process-requires c κs = search needs
 
--- src/lib.rt:207:9
 returns-3 : tie.Need-returns-3
 unfolding readNormal
 returns-3 c =
     let r = c .before .before in
     rw (eq-eqb _ _ (r .before .before .before .before .if1 .left), eq-eqb _ _ (r .before .if2 .left), eq-eqb _ _ (c .if3 .taken), r .read-process .ensures)
 
--- src/lib.rt:212:9
 read-area-requires : tie.Need-read-area-requires
 read-area-requires c κs = search needs
 
--- src/lib.rt:213:8
 is-bad-requires : tie.Need-is-bad-requires
 is-bad-requires c κs = search needs
 
--- src/lib.rt:214:9
 refuse-requires-3 : tie.Need-refuse-requires-3
 refuse-requires-3 c κs = search needs
 
--- src/lib.rt:214:9
 returns-4 : tie.Need-returns-4
 unfolding readNormal
 returns-4 c =
@@ -84,11 +70,9 @@ returns-4 c =
     let r = e .before .before in
     c .refuse3 .ensures ∙ sym (rw (eq-eqb _ _ (r .before .before .before .before .if1 .left), eq-eqb _ _ (r .before .if2 .left), ne-eqb _ _ (e .if3 .left), bad b ∙ c .before .if4 .taken))
 
--- src/lib.rt:217:34
 read-content-requires : tie.Need-read-content-requires
 read-content-requires c κs = search needs
 
--- src/lib.rt:182:1
 returns-5 : tie.Need-returns-5
 unfolding readNormal
 returns-5 c =

@@ -1,5 +1,5 @@
 -- `reply::read_task` meets its contract, kind by kind. Assumes nothing.
-use mathlib.Core.Path.{_≡_, refl, sym, ap, _∙_}
+use mathlib.Core.Path.{refl, sym, _∙_}
 use native.Mathlib.Omega.{arith}
 use Rattle.frame.proofs.DecodedLaws.{telegram-framed, normal-bounds}
 use Rattle.reply.specs.Reply.{readTask}
@@ -12,39 +12,30 @@ use Rattle.frame.proofs.decode.Reads as decode-reads
 use Rattle.reply.proofs.read_normal.Reads as read-normal-reads
 use Rattle.reply.proofs.refuse.Reads as refuse-reads
 
--- src/lib.rt:226:11
 decode-requires : tie.Need-decode-requires
 decode-requires c κs = search needs
 
--- src/lib.rt:227:26
 enum-known-fault : tie.Need-enum-known-fault
 enum-known-fault c = search needs
 
--- src/lib.rt:227:36
 refuse-requires : tie.Need-refuse-requires
 refuse-requires c κs = search needs
 
--- src/lib.rt:228:69
 enum-told : tie.Need-enum-told
 enum-told c = search needs
 
--- src/lib.rt:228:40
 refuse-requires-2 : tie.Need-refuse-requires-2
 refuse-requires-2 c κs = search needs
 
--- src/lib.rt:229:60
 enum-told-2 : tie.Need-enum-told-2
 enum-told-2 c = search needs
 
--- src/lib.rt:229:31
 refuse-requires-3 : tie.Need-refuse-requires-3
 refuse-requires-3 c κs = search needs
 
--- src/lib.rt:231:13
 enum-known-node : tie.Need-enum-known-node
 enum-known-node c = search needs
 
--- src/lib.rt:235:21
 sub-n : tie.Need-sub-n
 sub-n c =
     let d = c .before .before .before in
@@ -53,11 +44,9 @@ sub-n c =
     let b = normal-bounds (a .received .now) _ _ _ e in
     omega (arith, b .0, b .1, telegram-framed (a .received .now) _ e refl .counted .long)
 
--- src/lib.rt:236:13
 read-normal-requires : tie.Need-read-normal-requires
 read-normal-requires c κs = search needs
 
--- src/lib.rt:223:1
 returns : tie.Need-returns
 unfolding readTask
 returns c =
@@ -66,7 +55,6 @@ returns c =
     let e = sym (d .decode .ensures) ∙ c .before .before .fault .given .1 in
     c .refuse .ensures ∙ sym (rw e)
 
--- src/lib.rt:223:1
 returns-2 : tie.Need-returns-2
 unfolding readTask
 returns-2 c =
@@ -75,7 +63,6 @@ returns-2 c =
     let e = sym (d .decode .ensures) ∙ c .before .enum-told .given .1 in
     c .refuse2 .ensures ∙ sym (rw e)
 
--- src/lib.rt:223:1
 returns-3 : tie.Need-returns-3
 unfolding readTask
 returns-3 c =
@@ -84,7 +71,6 @@ returns-3 c =
     let e = sym (d .decode .ensures) ∙ c .before .enum-told2 .given .1 in
     c .refuse3 .ensures ∙ sym (rw e)
 
--- src/lib.rt:223:1
 returns-4 : tie.Need-returns-4
 unfolding readTask
 returns-4 c =

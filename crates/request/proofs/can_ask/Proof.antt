@@ -1,6 +1,6 @@
 -- `request::can_ask` meets its contract. Assumes nothing.
-use mathlib.Core.Path.{_≡_, refl, sym, ap, _∙_}
-use borrow.Author.Tests.{lt-ltb, le-ltb, eq-eqb, ne-eqb, not-true, not-false}
+use mathlib.Core.Path.{sym, _∙_}
+use borrow.Author.Tests.{not-true, not-false}
 use borrow.Author.Needs.{needs}
 use Rattle.request.proofs.can_ask.Statement.{statement}
 use Rattle.request.proofs.can_ask.Tie as tie
@@ -9,19 +9,15 @@ use Rattle.request.proofs.can_ask.Lts as lts
 use Rattle.request.proofs.fits_task.Reads as fits-task-reads
 use Rattle.request.proofs.leaves_zero.Reads as leaves-zero-reads
 
--- src/lib.rt:133:9
 fits-task-requires : tie.Need-fits-task-requires
 fits-task-requires c κs = search needs
 
--- src/lib.rt:134:9
 returns : tie.Need-returns
 returns c = sym (rw (sym (c .before .fits-task .ensures) ∙ not-true _ (c .if1 .taken)))
 
--- src/lib.rt:136:5
 leaves-zero-requires : tie.Need-leaves-zero-requires
 leaves-zero-requires c κs = search needs
 
--- src/lib.rt:130:1
 returns-2 : tie.Need-returns-2
 returns-2 c = c .leaves-zero .ensures ∙ sym (rw (sym (c .before .before .fits-task .ensures) ∙ not-false _ (c .before .if1 .left)))
 

@@ -1,6 +1,5 @@
 -- `request::can_command` meets its contract. Assumes nothing.
-use mathlib.Core.Path.{_≡_, refl, sym, ap, _∙_}
-use borrow.Author.Tests.{lt-ltb, le-ltb, eq-eqb, ne-eqb, not-true, not-false}
+use mathlib.Core.Path.{sym, _∙_}
 use borrow.Author.Needs.{needs}
 use Rattle.request.proofs.can_command.Statement.{statement}
 use Rattle.request.proofs.can_command.Tie as tie
@@ -9,19 +8,15 @@ use Rattle.request.proofs.can_command.Lts as lts
 use Rattle.broadcast.proofs.is_void.Reads as is-void-reads
 use Rattle.request.proofs.leaves_zero.Reads as leaves-zero-reads
 
--- src/lib.rt:149:8
 is-void-requires : tie.Need-is-void-requires
 is-void-requires c κs = search needs
 
--- src/lib.rt:150:9
 returns : tie.Need-returns
 returns c = sym (rw (sym (c .before .is-void .ensures) ∙ c .if1 .taken))
 
--- src/lib.rt:152:5
 leaves-zero-requires : tie.Need-leaves-zero-requires
 leaves-zero-requires c κs = search needs
 
--- src/lib.rt:140:1
 returns-2 : tie.Need-returns-2
 returns-2 c = c .leaves-zero .ensures ∙ sym (rw (sym (c .before .before .is-void .ensures) ∙ c .before .if1 .left))
 

@@ -1,6 +1,5 @@
 -- `request::can_express` meets its contract. Assumes nothing.
-use mathlib.Core.Path.{_≡_, refl, sym, ap, _∙_}
-use borrow.Author.Tests.{lt-ltb, le-ltb, eq-eqb, ne-eqb, not-true, not-false}
+use borrow.Author.Tests.{lt-ltb, le-ltb}
 use Rattle.request.specs.Request.{expressible}
 use borrow.Author.Needs.{needs}
 use Rattle.request.proofs.can_express.Statement.{statement}
@@ -10,42 +9,33 @@ use Rattle.request.proofs.can_express.Lts as lts
 use Rattle.request.proofs.can_ask.Reads as can-ask-reads
 use Rattle.request.proofs.can_command.Reads as can-command-reads
 
--- src/lib.rt:161:13
 enum-known-request : tie.Need-enum-known-request
 enum-known-request c = search needs
 
--- src/lib.rt:166:14
 can-ask-requires : tie.Need-can-ask-requires
 can-ask-requires c κs = search needs
 
--- src/lib.rt:168:17
 enum-told : tie.Need-enum-told
 enum-told c = search needs
 
--- src/lib.rt:170:17
 returns : tie.Need-returns
 unfolding expressible
 returns c = rw (c .before .enum-told .given .1, lt-ltb _ _ (c .if1 .taken))
 
--- src/lib.rt:175:13
 enum-known-request-2 : tie.Need-enum-known-request-2
 enum-known-request-2 c = search needs
 
--- src/lib.rt:179:14
 can-command-requires : tie.Need-can-command-requires
 can-command-requires c κs = search needs
 
--- src/lib.rt:156:1
 returns-2 : tie.Need-returns-2
 unfolding expressible
 returns-2 c = rw (c .before .before .request .given .1) (c .can-ask .ensures)
 
--- src/lib.rt:156:1
 returns-3 : tie.Need-returns-3
 unfolding expressible
 returns-3 c = rw (c .before .enum-told .given .1, le-ltb _ _ (c .if1 .left))
 
--- src/lib.rt:156:1
 returns-4 : tie.Need-returns-4
 unfolding expressible
 returns-4 c = rw (c .before .before .request2 .given .1) (c .can-command .ensures)

@@ -6,29 +6,23 @@ use Rattle.request.proofs.fits_change.Tie as tie
 use Rattle.request.proofs.fits_change.Reads as reads
 use Rattle.request.proofs.fits_change.Lts as lts
 
--- src/lib.rt:82:26
 enum-told : tie.Need-enum-told
 enum-told c = search needs
 
--- src/lib.rt:83:24
 enum-told-2 : tie.Need-enum-told-2
 enum-told-2 c = search needs
 
--- src/lib.rt:84:26
 enum-told-3 : tie.Need-enum-told-3
 enum-told-3 c = search needs
 
--- src/lib.rt:78:1
 returns : tie.Need-returns
 unfolding valueFits
 returns c = rw (c .enum-told .given .1)
 
--- src/lib.rt:78:1
 returns-2 : tie.Need-returns-2
 unfolding valueFits
 returns-2 c = rw (c .enum-told2 .given .1)
 
--- src/lib.rt:78:1
 returns-3 : tie.Need-returns-3
 unfolding valueFits
 returns-3 c = rw (c .enum-told3 .given .1)

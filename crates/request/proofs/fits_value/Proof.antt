@@ -7,51 +7,40 @@ use Rattle.request.proofs.fits_value.Reads as reads
 use Rattle.request.proofs.fits_value.Lts as lts
 use Rattle.request.proofs.fits_change.Reads as fits-change-reads
 
--- src/lib.rt:93:25
 enum-told : tie.Need-enum-told
 enum-told c = search needs
 
--- src/lib.rt:94:22
 enum-told-2 : tie.Need-enum-told-2
 enum-told-2 c = search needs
 
--- src/lib.rt:95:24
 enum-told-3 : tie.Need-enum-told-3
 enum-told-3 c = search needs
 
--- src/lib.rt:95:24
 fits-change-requires : tie.Need-fits-change-requires
 fits-change-requires c κs = search needs
 
--- src/lib.rt:96:23
 enum-told-4 : tie.Need-enum-told-4
 enum-told-4 c = search needs
 
--- src/lib.rt:97:24
 enum-told-5 : tie.Need-enum-told-5
 enum-told-5 c = search needs
 
--- src/lib.rt:89:1
 returns : tie.Need-returns
 unfolding valueFits
 returns c = rw (c .enum-told .given .1)
 
--- src/lib.rt:89:1
 returns-2 : tie.Need-returns-2
 unfolding valueFits
 returns-2 c = rw (c .enum-told2 .given .1)
 
--- src/lib.rt:89:1
 returns-3 : tie.Need-returns-3
 unfolding valueFits
 returns-3 c = rw (c .before .enum-told3 .given .1) (c .fits-change .ensures)
 
--- src/lib.rt:89:1
 returns-4 : tie.Need-returns-4
 unfolding valueFits
 returns-4 c = rw (c .enum-told4 .given .1)
 
--- src/lib.rt:89:1
 returns-5 : tie.Need-returns-5
 unfolding valueFits
 returns-5 c = rw (c .enum-told5 .given .1)

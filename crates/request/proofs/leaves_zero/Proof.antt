@@ -1,7 +1,7 @@
 -- `request::leaves_zero` meets its contract: the first word that is not 0 decides. Assumes nothing.
-use mathlib.Core.Path.{_≡_, refl, sym, ap, _∙_}
+use mathlib.Core.Path.{sym, _∙_}
 use lib.Dec.{ltb}
-use borrow.Author.Tests.{lt-ltb, le-ltb, eq-eqb, ne-eqb, not-true, not-false}
+use borrow.Author.Tests.{not-true, not-false}
 use Rattle.request.specs.Request.{usedOrZero, unusedZero}
 use Rattle.request.proofs.AllLaws.{first-fails, second-fails, third-fails, last-decides}
 use borrow.Author.Needs.{needs}
@@ -11,11 +11,9 @@ use Rattle.request.proofs.leaves_zero.Reads as reads
 use Rattle.request.proofs.leaves_zero.Lts as lts
 use Rattle.request.proofs.used_or_zero.Reads as used-or-zero-reads
 
--- src/lib.rt:65:9
 used-or-zero-requires : tie.Need-used-or-zero-requires
 used-or-zero-requires c κs = search needs
 
--- src/lib.rt:66:9
 returns : tie.Need-returns
 unfolding unusedZero
 returns c =
@@ -26,11 +24,9 @@ returns c =
     let r4 = usedOrZero (ltb 3 (a .pzd)) (a .w .w4) in
     sym (first-fails r1 r2 r3 r4 (sym (c .before .used-or-zero .ensures) ∙ not-true _ (c .if1 .taken)))
 
--- src/lib.rt:68:9
 used-or-zero-requires-2 : tie.Need-used-or-zero-requires-2
 used-or-zero-requires-2 c κs = search needs
 
--- src/lib.rt:69:9
 returns-2 : tie.Need-returns-2
 unfolding unusedZero
 returns-2 c =
@@ -41,11 +37,9 @@ returns-2 c =
     let r4 = usedOrZero (ltb 3 (a .pzd)) (a .w .w4) in
     sym (second-fails r1 r2 r3 r4 (sym (c .before .before .before .used-or-zero .ensures) ∙ not-false _ (c .before .before .if1 .left)) (sym (c .before .used-or-zero2 .ensures) ∙ not-true _ (c .if2 .taken)))
 
--- src/lib.rt:71:9
 used-or-zero-requires-3 : tie.Need-used-or-zero-requires-3
 used-or-zero-requires-3 c κs = search needs
 
--- src/lib.rt:72:9
 returns-3 : tie.Need-returns-3
 unfolding unusedZero
 returns-3 c =
@@ -56,11 +50,9 @@ returns-3 c =
     let r4 = usedOrZero (ltb 3 (a .pzd)) (a .w .w4) in
     sym (third-fails r1 r2 r3 r4 (sym (c .before .before .before .before .before .used-or-zero .ensures) ∙ not-false _ (c .before .before .before .before .if1 .left)) (sym (c .before .before .before .used-or-zero2 .ensures) ∙ not-false _ (c .before .before .if2 .left)) (sym (c .before .used-or-zero3 .ensures) ∙ not-true _ (c .if3 .taken)))
 
--- src/lib.rt:74:5
 used-or-zero-requires-4 : tie.Need-used-or-zero-requires-4
 used-or-zero-requires-4 c κs = search needs
 
--- src/lib.rt:62:1
 returns-4 : tie.Need-returns-4
 unfolding unusedZero
 returns-4 c =

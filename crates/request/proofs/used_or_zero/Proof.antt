@@ -6,11 +6,9 @@ use Rattle.request.proofs.used_or_zero.Tie as tie
 use Rattle.request.proofs.used_or_zero.Reads as reads
 use Rattle.request.proofs.used_or_zero.Lts as lts
 
--- src/lib.rt:55:1
 returns : tie.Need-returns
 returns c = search needs
 
--- src/lib.rt:55:1
 returns-2 : tie.Need-returns-2
 returns-2 c = rw (c .if1 .left)
 

@@ -11,35 +11,27 @@ use Rattle.opening.proofs.open.Reads as open-reads
 use Rattle.runs_opening.proofs.show.Reads as show-reads
 use Rattle.runs_opening.proofs.usual.Reads as usual-reads
 
--- src/main.rt:97:9
 returns : tie.Need-returns
 returns c = search needs
 
--- src/main.rt:100:9
 returns-2 : tie.Need-returns-2
 returns-2 c = search needs
 
--- src/main.rt:102:23
 usual-requires : tie.Need-usual-requires
 usual-requires c κs = search needs
 
--- src/main.rt:102:32
 slice-aggregate-open : tie.Need-slice-aggregate-open
 slice-aggregate-open c = sym (length-take-le _ _ (omega arith))
 
--- src/main.rt:102:46
 slice-aggregate-open-2 : tie.Need-slice-aggregate-open-2
 slice-aggregate-open-2 c = sym (length-take-le _ _ (omega arith))
 
--- src/main.rt:102:9
 open-requires : tie.Need-open-requires
 open-requires c κs = search needs
 
--- src/main.rt:103:5
 show-requires : tie.Need-show-requires
 show-requires c κs = search needs
 
--- src/main.rt:95:1
 returns-3 : tie.Need-returns-3
 returns-3 c = search needs
 

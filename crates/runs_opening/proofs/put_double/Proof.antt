@@ -7,67 +7,51 @@ use Rattle.runs_opening.proofs.put_double.Tie as tie
 use Rattle.runs_opening.proofs.put_double.Reads as reads
 use Rattle.runs_opening.proofs.put_double.Lts as lts
 
--- src/main.rt:42:9
 returns : tie.Need-returns
 returns c = search needs
 
--- src/main.rt:44:8
 sub-if2 : tie.Need-sub-if2
 sub-if2 c = search needs
 
--- src/main.rt:45:9
 returns-2 : tie.Need-returns-2
 returns-2 c = search needs
 
--- src/main.rt:47:13
 cast-t : tie.Need-cast-t
 cast-t c = search needs
 
--- src/main.rt:47:5
 slice-write-t : tie.Need-slice-write-t
 slice-write-t c = search needs
 
--- src/main.rt:48:17
 cast-t-2 : tie.Need-cast-t-2
 cast-t-2 c = search needs
 
--- src/main.rt:48:7
 add-t : tie.Need-add-t
 add-t c = search needs
 
--- src/main.rt:48:5
 slice-write-t-2 : tie.Need-slice-write-t-2
 slice-write-t-2 c = simp length-set (omega arith)
 
--- src/main.rt:49:17
 cast-t-3 : tie.Need-cast-t-3
 cast-t-3 c = search needs
 
--- src/main.rt:49:7
 add-t-2 : tie.Need-add-t-2
 add-t-2 c = search needs
 
--- src/main.rt:49:5
 slice-write-t-3 : tie.Need-slice-write-t-3
 slice-write-t-3 c = simp length-set (omega arith)
 
--- src/main.rt:50:17
 cast-t-4 : tie.Need-cast-t-4
 cast-t-4 c = search needs
 
--- src/main.rt:50:7
 add-t-3 : tie.Need-add-t-3
 add-t-3 c = search needs
 
--- src/main.rt:50:5
 slice-write-t-4 : tie.Need-slice-write-t-4
 slice-write-t-4 c = simp length-set (omega arith)
 
--- src/main.rt:40:1
 same-length : tie.Need-same-length
 same-length c = search needs
 
--- src/main.rt:40:1
 returns-3 : tie.Need-returns-3
 returns-3 c = search needs
 

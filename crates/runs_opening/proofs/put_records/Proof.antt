@@ -16,47 +16,36 @@ Inv-loop t₀ n elements last k₀ t k = (k ≤ n) × (length t ≡ length t₀)
 abbrev μ-loop : tie.MeasureT-loop
 μ-loop t₀ n elements last k₀ t k = n - k
 
--- src/main.rt:103:5
 loop-holds : tie.Need-loop-holds Inv-loop μ-loop
 loop-holds c = search needs
 
--- src/main.rt:104:23
 cast-put-record : tie.Need-cast-put-record Inv-loop μ-loop
 cast-put-record c = search needs
 
--- src/main.rt:104:35
 head-requires : tie.Need-head-requires Inv-loop μ-loop
 head-requires c κs = search needs
 
--- src/main.rt:104:9
 put-record-requires : tie.Need-put-record-requires Inv-loop μ-loop
 put-record-requires c κs = search needs
 
--- src/main.rt:103:9
 add-k : tie.Need-add-k Inv-loop μ-loop
 add-k c = search needs
 
--- src/main.rt:103:5
 loop-less : tie.Need-loop-less Inv-loop μ-loop
 loop-less c = search needs
 
--- src/main.rt:103:5
 loop-again : tie.Need-loop-again Inv-loop μ-loop
 loop-again c = search needs
 
--- src/main.rt:106:31
 head-requires-2 : tie.Need-head-requires-2 Inv-loop μ-loop
 head-requires-2 c κs = search needs
 
--- src/main.rt:106:5
 put-record-requires-2 : tie.Need-put-record-requires-2 Inv-loop μ-loop
 put-record-requires-2 c κs = search needs
 
--- src/main.rt:102:1
 same-length : tie.Need-same-length Inv-loop μ-loop
 same-length c = search needs
 
--- src/main.rt:102:1
 returns : tie.Need-returns Inv-loop μ-loop
 returns c = search needs
 

@@ -10,31 +10,24 @@ use Rattle.runs_slave.proofs.ask_first.Lts as lts
 use Rattle.runs_slave.proofs.ask.Reads as ask-reads
 use Rattle.runs_slave.proofs.ask_drive.Reads as ask-drive-reads
 
--- src/main.rt:239:9
 returns : tie.Need-returns
 returns c = search needs
 
--- src/main.rt:242:30
 slice-aggregate-ask-drive : tie.Need-slice-aggregate-ask-drive
 slice-aggregate-ask-drive c = sym (length-take-le _ _ (omega arith))
 
--- src/main.rt:242:9
 ask-drive-requires : tie.Need-ask-drive-requires
 ask-drive-requires c κs = search needs
 
--- src/main.rt:244:24
 slice-aggregate-ask : tie.Need-slice-aggregate-ask
 slice-aggregate-ask c = sym (length-take-le _ _ (omega arith))
 
--- src/main.rt:244:9
 ask-requires : tie.Need-ask-requires
 ask-requires c κs = search needs
 
--- src/main.rt:237:1
 returns-2 : tie.Need-returns-2
 returns-2 c = search needs
 
--- src/main.rt:237:1
 returns-3 : tie.Need-returns-3
 returns-3 c = search needs
 

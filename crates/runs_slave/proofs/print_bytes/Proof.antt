@@ -13,31 +13,24 @@ Inv-loop bytes n i₀ i-end i = i ≤ i-end
 abbrev μ-loop : tie.MeasureT-loop
 μ-loop bytes n i₀ i-end i = i-end - i
 
--- src/main.rt:106:5
 loop-holds : tie.Need-loop-holds Inv-loop μ-loop
 loop-holds c = search needs
 
--- src/main.rt:108:24
 shared-slice-read-print-byte : tie.Need-shared-slice-read-print-byte Inv-loop μ-loop
 shared-slice-read-print-byte c = search needs
 
--- src/main.rt:108:13
 print-byte-requires : tie.Need-print-byte-requires Inv-loop μ-loop
 print-byte-requires c κs = search needs
 
--- src/main.rt:106:9
 add-i : tie.Need-add-i Inv-loop μ-loop
 add-i c = search needs
 
--- src/main.rt:106:5
 loop-less : tie.Need-loop-less Inv-loop μ-loop
 loop-less c = search needs
 
--- src/main.rt:106:5
 loop-again : tie.Need-loop-again Inv-loop μ-loop
 loop-again c = search needs
 
--- src/main.rt:105:1
 returns : tie.Need-returns Inv-loop μ-loop
 returns c = search needs
 

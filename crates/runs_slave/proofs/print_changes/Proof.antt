@@ -13,51 +13,39 @@ Inv-loop values old i₀ i-end i = i ≤ i-end
 abbrev μ-loop : tie.MeasureT-loop
 μ-loop values old i₀ i-end i = i-end - i
 
--- src/main.rt:122:5
 loop-holds : tie.Need-loop-holds Inv-loop μ-loop
 loop-holds c = search needs
 
--- src/main.rt:124:16
 mul-if2 : tie.Need-mul-if2 Inv-loop μ-loop
 mul-if2 c = search needs
 
--- src/main.rt:124:16
 shared-slice-read-if2 : tie.Need-shared-slice-read-if2 Inv-loop μ-loop
 shared-slice-read-if2 c = search needs
 
--- src/main.rt:124:29
 mul-if2-2 : tie.Need-mul-if2-2 Inv-loop μ-loop
 mul-if2-2 c = search needs
 
--- src/main.rt:124:29
 shared-slice-read-if2-2 : tie.Need-shared-slice-read-if2-2 Inv-loop μ-loop
 shared-slice-read-if2-2 c = search needs
 
--- src/main.rt:125:32
 mul-print-place : tie.Need-mul-print-place Inv-loop μ-loop
 mul-print-place c = search needs
 
--- src/main.rt:125:32
 shared-slice-read-print-place : tie.Need-shared-slice-read-print-place Inv-loop μ-loop
 shared-slice-read-print-place c = search needs
 
--- src/main.rt:125:17
 print-place-requires : tie.Need-print-place-requires Inv-loop μ-loop
 print-place-requires c κs = search needs
 
--- src/main.rt:122:9
 add-i : tie.Need-add-i Inv-loop μ-loop
 add-i c = search needs
 
--- src/main.rt:122:5
 loop-less : tie.Need-loop-less Inv-loop μ-loop
 loop-less c = search needs
 
--- src/main.rt:122:5
 loop-again : tie.Need-loop-again Inv-loop μ-loop
 loop-again c = search needs
 
--- src/main.rt:121:1
 returns : tie.Need-returns Inv-loop μ-loop
 returns c = search needs
 

@@ -8,23 +8,18 @@ use Rattle.task.proofs.full_number.Reads as reads
 use Rattle.task.proofs.full_number.Lts as lts
 use Rattle.task.proofs.page_of.Reads as page-of-reads
 
--- src/lib.rt:139:9
 page-of-requires : tie.Need-page-of-requires
 page-of-requires c κs = search needs
 
--- src/lib.rt:140:6
 cast-result : tie.Need-cast-result
 cast-result c = search needs
 
--- src/lib.rt:140:5
 mul-result : tie.Need-mul-result
 mul-result c = omega (arith, c .page-of .ensures, page-small (c .before .args .ind))
 
--- src/lib.rt:140:5
 add-result : tie.Need-add-result
 add-result c = omega (arith, c .page-of .ensures, page-small (c .before .args .ind))
 
--- src/lib.rt:136:1
 returns : tie.Need-returns
 returns c = search needs
 

@@ -1,15 +1,19 @@
 -- `task::judge` meets its contract: the tests that led to a `return` choose its row. Assumes nothing.
 use mathlib.Core.Path.{_≡_, refl, sym, _∙_}
-use mathlib.Core.Bool.{not, _&&_}
-use mathlib.Core.Logic.{inl, inr}
-use Rattle.task.specs.Verdict.{refusesAct, changesAct, countsAct, otherWidth, noArray, noElement, noRoom}
+use mathlib.Core.Bool.{false, not, _&&_}
+use mathlib.Core.List.{[], _∷_}
+use mathlib.Core.Logic.{inl, inr, ⊎-elim}
+use Rattle.rows.proofs.RowsLaws.{Chosen}
+use Rattle.task.specs.declared.ParameterError.the-variants.{NotWritable, OutsideLimits}
+use Rattle.task.specs.declared.Verdict.{Verdict}
+use Rattle.task.specs.declared.Verdict.the-variants.{Granted, Denied}
+use Rattle.task.specs.Verdict.{refusesAct, changesAct, countsAct, otherWidth, noArray, noElement, noRoom, verdictOf}
 use Rattle.task.proofs.VerdictLaws.{judged}
 use borrow.Author.Needs.{needs}
 use Rattle.task.proofs.judge.Statement.{statement}
 use Rattle.task.proofs.judge.Tie as tie
 use Rattle.task.proofs.judge.Reads as reads
 use Rattle.task.proofs.judge.Lts as lts
-use Rattle.task.proofs.both.Reads as both-reads
 use Rattle.task.proofs.changes.Reads as changes-reads
 use Rattle.task.proofs.counts.Reads as counts-reads
 use Rattle.task.proofs.differs.Reads as differs-reads
@@ -18,100 +22,105 @@ use Rattle.task.proofs.lacks_element.Reads as lacks-element-reads
 use Rattle.task.proofs.lacks_room.Reads as lacks-room-reads
 use Rattle.task.proofs.refuses.Reads as refuses-reads
 
--- src/lib.rt:244:8
+-- ---- the rows that were passed
+
+-- 106, 4, 3
+none-3 : (c : tie.Else3)
+    → (let a = c .before .before .before .before .before .before .args in (refusesAct (a .act) ≡ false) × (noArray (a .array) (a .elements) (a .index) ≡ false) × (noElement (a .array) (a .elements) (a .index) ≡ false))
+none-3 c = (
+  sym (c .before .before .before .before .before .refuses .ensures) ∙ c .before .before .before .before .if1 .left,
+  sym (c .before .before .before .lacks-array .ensures) ∙ c .before .before .if2 .left,
+  sym (c .before .lacks-element .ensures) ∙ c .if3 .left,
+)
+
+-- 5
+none-4 : (c : tie.Joined4) → (let a = c .before .before .before .before .before .before .before .before .args in (changesAct (a .act) && otherWidth (a .width) (a .double)) ≡ false)
+none-4 c =
+    ⊎-elim (λ w. rw (sym (c .before .changes .ensures) ∙ w .0 .taken) (sym (w .1 .ensures) ∙ w .2 .left)) (λ w. rw (sym (c .before .changes .ensures) ∙ w .left))
+    (c .if4 .came)
+
+-- 102
+room : (c : tie.After-lacks-room) → (let a = c .before .before .before .before .before .before .before .before .before .before .args in noRoom (a .double) (a .n) (countsAct (a .act)) ≡ c .lacks-room .result)
+room c = sym (c .lacks-room .ensures ∙ rw (c .before .counts .ensures))
+
+-- all but the last two
+none-5 : (c : tie.Else6) (r : Verdict)
+    → (let a = c .before .before .before .before .before .before .before .before .before .before .before .args in Chosen ((changesAct (a .act) && not (a .writable), Denied NotWritable) ∷ (changesAct (a .act) && not (a .inside), Denied OutsideLimits) ∷ []) Granted r)
+    → (let a = c .before .before .before .before .before .before .before .before .before .before .before .args in r ≡ verdictOf (a .act) (a .width) (a .array) (a .elements) (a .double) (a .writable) (a .inside) (a .index) (a .n))
+none-5 c r h =
+    let n = none-3 (c .before .before .before .before .before) in
+    judged _ _ _ _ _ _ _ _ _ r (inr (n .0, inr (n .1, inr (n .2, inr (none-4 (c .before .before .before), inr (room (c .before) ∙ c .if6 .left, h))))))
+
+-- whether the task is a change
+change : (c : tie.Else6) → (let a = c .before .before .before .before .before .before .before .before .before .before .before .args in changesAct (a .act) ≡ c .before .before .before .before .changes .result)
+change c = sym (c .before .before .before .before .changes .ensures)
+
+-- ---- the facts
+
 refuses-requires : tie.Need-refuses-requires
 refuses-requires c κs = search needs
 
--- ---- each test of the code is a row of the table
-
-row-1 : (c : tie.After-refuses) → (let a = c .before .args in c .refuses .result ≡ refusesAct (a .act))
-row-1 c = c .refuses .ensures
-
-row-2 : (c : tie.After-lacks-array) → (let a = c .before .before .before .args in c .lacks-array .result ≡ noArray (a .array) (a .elements) (a .index))
-row-2 c = c .lacks-array .ensures
-
-row-3 : (c : tie.After-lacks-element) → (let a = c .before .before .before .before .before .args in c .lacks-element .result ≡ noElement (a .array) (a .elements) (a .index))
-row-3 c = c .lacks-element .ensures
-
-row-4 : (c : tie.After-both) → (let a = c .before .before .before .before .before .before .before .before .before .args in c .both .result ≡ (changesAct (a .act) && otherWidth (a .width) (a .double)))
-row-4 c = c .both .ensures ∙ rw (c .before .before .changes .ensures, c .before .differs .ensures)
-
-row-5 : (c : tie.After-lacks-room) → (let a = c .before .before .before .before .before .before .before .before .before .before .before .before .args in c .lacks-room .result ≡ noRoom (a .double) (a .n) (countsAct (a .act)))
-row-5 c = c .lacks-room .ensures ∙ rw (c .before .counts .ensures)
-
-row-6 : (c : tie.After-both2) → (let a = c .before .before .before .before .before .before .before .before .before .before .before .before .before .before .args in c .both2 .result ≡ (changesAct (a .act) && not (a .writable)))
-row-6 c = c .both2 .ensures ∙ rw (c .before .before .before .before .before .before .before .changes .ensures)
-
-row-7 : (c : tie.After-both3) → (let a = c .before .before .before .before .before .before .before .before .before .before .before .before .before .before .before .before .args in c .both3 .result ≡ (changesAct (a .act) && not (a .inside)))
-row-7 c = c .both3 .ensures ∙ rw (c .before .before .before .before .before .before .before .before .before .changes .ensures)
-
--- src/lib.rt:245:9
 returns : tie.Need-returns
-returns c = judged _ _ _ _ _ _ _ _ _ _ (inl (sym (row-1 (c .before)) ∙ c .if1 .taken, refl))
+returns c = judged _ _ _ _ _ _ _ _ _ _ (inl (sym (c .before .refuses .ensures) ∙ c .if1 .taken, refl))
 
--- src/lib.rt:247:8
 lacks-array-requires : tie.Need-lacks-array-requires
 lacks-array-requires c κs = search needs
 
--- src/lib.rt:248:9
 returns-2 : tie.Need-returns-2
-returns-2 c = judged _ _ _ _ _ _ _ _ _ _ (inr (sym (row-1 (c .before .before .before)) ∙ c .before .before .if1 .left, inl (sym (row-2 (c .before)) ∙ c .if2 .taken, refl)))
+returns-2 c =
+    judged _ _ _ _ _ _ _ _ _ _
+    (inr (sym (c .before .before .before .refuses .ensures) ∙ c .before .before .if1 .left, inl (sym (c .before .lacks-array .ensures) ∙ c .if2 .taken, refl)))
 
--- src/lib.rt:250:8
 lacks-element-requires : tie.Need-lacks-element-requires
 lacks-element-requires c κs = search needs
 
--- src/lib.rt:251:9
 returns-3 : tie.Need-returns-3
-returns-3 c = judged _ _ _ _ _ _ _ _ _ _ (inr (sym (row-1 (c .before .before .before .before .before)) ∙ c .before .before .before .before .if1 .left, inr (sym (row-2 (c .before .before .before)) ∙ c .before .before .if2 .left, inl (sym (row-3 (c .before)) ∙ c .if3 .taken, refl))))
+returns-3 c =
+    judged _ _ _ _ _ _ _ _ _ _
+    (inr (sym (c .before .before .before .before .before .refuses .ensures) ∙ c .before .before .before .before .if1 .left, inr (sym (c .before .before .before .lacks-array .ensures) ∙ c .before .before .if2 .left, inl (sym (c .before .lacks-element .ensures) ∙ c .if3 .taken, refl))))
 
--- src/lib.rt:253:9
 changes-requires : tie.Need-changes-requires
 changes-requires c κs = search needs
 
--- src/lib.rt:254:21
 differs-requires : tie.Need-differs-requires
 differs-requires c κs = search needs
 
--- src/lib.rt:254:8
-both-requires : tie.Need-both-requires
-both-requires c κs = search needs
-
--- src/lib.rt:255:9
 returns-4 : tie.Need-returns-4
-returns-4 c = judged _ _ _ _ _ _ _ _ _ _ (inr (sym (row-1 (c .before .before .before .before .before .before .before .before .before)) ∙ c .before .before .before .before .before .before .before .before .if1 .left, inr (sym (row-2 (c .before .before .before .before .before .before .before)) ∙ c .before .before .before .before .before .before .if2 .left, inr (sym (row-3 (c .before .before .before .before .before)) ∙ c .before .before .before .before .if3 .left, inl (sym (row-4 (c .before)) ∙ c .if4 .taken, refl)))))
+returns-4 c =
+    let n = none-3 (c .before .before .before .before) in
+    let change = sym (c .before .before .before .changes .ensures) ∙ c .before .before .if4 .taken in
+    judged _ _ _ _ _ _ _ _ _ _ (inr (n .0, inr (n .1, inr (n .2, inl (rw change (sym (c .before .differs .ensures) ∙ c .if5 .taken), refl)))))
 
--- src/lib.rt:257:30
 counts-requires : tie.Need-counts-requires
 counts-requires c κs = search needs
 
--- src/lib.rt:257:8
 lacks-room-requires : tie.Need-lacks-room-requires
 lacks-room-requires c κs = search needs
 
--- src/lib.rt:258:9
 returns-5 : tie.Need-returns-5
-returns-5 c = judged _ _ _ _ _ _ _ _ _ _ (inr (sym (row-1 (c .before .before .before .before .before .before .before .before .before .before .before .before)) ∙ c .before .before .before .before .before .before .before .before .before .before .before .if1 .left, inr (sym (row-2 (c .before .before .before .before .before .before .before .before .before .before)) ∙ c .before .before .before .before .before .before .before .before .before .if2 .left, inr (sym (row-3 (c .before .before .before .before .before .before .before .before)) ∙ c .before .before .before .before .before .before .before .if3 .left, inr (sym (row-4 (c .before .before .before .before)) ∙ c .before .before .before .if4 .left, inl (sym (row-5 (c .before)) ∙ c .if5 .taken, refl))))))
+returns-5 c =
+    let n = none-3 (c .before .before .before .before .before) in
+    judged _ _ _ _ _ _ _ _ _ _ (inr (n .0, inr (n .1, inr (n .2, inr (none-4 (c .before .before .before), inl (room (c .before) ∙ c .if6 .taken, refl))))))
 
--- src/lib.rt:260:8
-both-requires-2 : tie.Need-both-requires-2
-both-requires-2 c κs = search needs
-
--- src/lib.rt:261:9
 returns-6 : tie.Need-returns-6
-returns-6 c = judged _ _ _ _ _ _ _ _ _ _ (inr (sym (row-1 (c .before .before .before .before .before .before .before .before .before .before .before .before .before .before)) ∙ c .before .before .before .before .before .before .before .before .before .before .before .before .before .if1 .left, inr (sym (row-2 (c .before .before .before .before .before .before .before .before .before .before .before .before)) ∙ c .before .before .before .before .before .before .before .before .before .before .before .if2 .left, inr (sym (row-3 (c .before .before .before .before .before .before .before .before .before .before)) ∙ c .before .before .before .before .before .before .before .before .before .if3 .left, inr (sym (row-4 (c .before .before .before .before .before .before)) ∙ c .before .before .before .before .before .if4 .left, inr (sym (row-5 (c .before .before .before)) ∙ c .before .before .if5 .left, inl (sym (row-6 (c .before)) ∙ c .if6 .taken, refl)))))))
+returns-6 c = let e = c .before .before in none-5 e _ (inl (rw (change e ∙ c .before .if7 .taken) (c .if8 .taken), refl))
 
--- src/lib.rt:263:8
-both-requires-3 : tie.Need-both-requires-3
-both-requires-3 c κs = search needs
-
--- src/lib.rt:264:9
 returns-7 : tie.Need-returns-7
-returns-7 c = judged _ _ _ _ _ _ _ _ _ _ (inr (sym (row-1 (c .before .before .before .before .before .before .before .before .before .before .before .before .before .before .before .before)) ∙ c .before .before .before .before .before .before .before .before .before .before .before .before .before .before .before .if1 .left, inr (sym (row-2 (c .before .before .before .before .before .before .before .before .before .before .before .before .before .before)) ∙ c .before .before .before .before .before .before .before .before .before .before .before .before .before .if2 .left, inr (sym (row-3 (c .before .before .before .before .before .before .before .before .before .before .before .before)) ∙ c .before .before .before .before .before .before .before .before .before .before .before .if3 .left, inr (sym (row-4 (c .before .before .before .before .before .before .before .before)) ∙ c .before .before .before .before .before .before .before .if4 .left, inr (sym (row-5 (c .before .before .before .before .before)) ∙ c .before .before .before .before .if5 .left, inr (sym (row-6 (c .before .before .before)) ∙ c .before .before .if6 .left, inl (sym (row-7 (c .before)) ∙ c .if7 .taken, refl))))))))
+returns-7 c =
+    let e = c .before .before .before in
+    let t = change e ∙ c .before .before .if7 .taken in
+    none-5 e _ (inr (rw t (c .before .if8 .left), inl (rw t (c .if9 .taken), refl)))
 
--- src/lib.rt:231:1
 returns-8 : tie.Need-returns-8
-returns-8 c = judged _ _ _ _ _ _ _ _ _ _ (inr (sym (row-1 (c .before .before .before .before .before .before .before .before .before .before .before .before .before .before .before .before)) ∙ c .before .before .before .before .before .before .before .before .before .before .before .before .before .before .before .if1 .left, inr (sym (row-2 (c .before .before .before .before .before .before .before .before .before .before .before .before .before .before)) ∙ c .before .before .before .before .before .before .before .before .before .before .before .before .before .if2 .left, inr (sym (row-3 (c .before .before .before .before .before .before .before .before .before .before .before .before)) ∙ c .before .before .before .before .before .before .before .before .before .before .before .if3 .left, inr (sym (row-4 (c .before .before .before .before .before .before .before .before)) ∙ c .before .before .before .before .before .before .before .if4 .left, inr (sym (row-5 (c .before .before .before .before .before)) ∙ c .before .before .before .before .if5 .left, inr (sym (row-6 (c .before .before .before)) ∙ c .before .before .if6 .left, inr (sym (row-7 (c .before)) ∙ c .if7 .left, refl))))))))
+returns-8 c =
+    let e = c .before .before .before in
+    let t = change e ∙ c .before .before .if7 .taken in
+    none-5 e _ (inr (rw t (c .before .if8 .left), inr (rw t (c .if9 .left), refl)))
+
+returns-9 : tie.Need-returns-9
+returns-9 c =
+    let f = change (c .before) ∙ c .if7 .left in
+    none-5 (c .before) _ (inr (rw f, inr (rw f, refl)))
 
 pub judge-spec : {M : Type 1} → statement M
 judge-spec =
@@ -125,13 +134,11 @@ judge-spec =
     returns-3
     changes-requires
     differs-requires
-    both-requires
     returns-4
     counts-requires
     lacks-room-requires
     returns-5
-    both-requires-2
     returns-6
-    both-requires-3
     returns-7
-    returns-8)
+    returns-8
+    returns-9)

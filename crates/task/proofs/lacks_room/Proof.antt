@@ -1,5 +1,4 @@
 -- `task::lacks_room` meets its contract. Assumes nothing.
-use mathlib.Core.Path.{_≡_, refl, sym, ap, _∙_}
 use borrow.Author.Tests.{eq-eqb, ne-eqb}
 use borrow.Author.Needs.{needs}
 use Rattle.task.proofs.lacks_room.Statement.{statement}
@@ -7,15 +6,12 @@ use Rattle.task.proofs.lacks_room.Tie as tie
 use Rattle.task.proofs.lacks_room.Reads as reads
 use Rattle.task.proofs.lacks_room.Lts as lts
 
--- src/lib.rt:218:1
 returns : tie.Need-returns
 returns c = rw (c .before .if1 .taken, eq-eqb _ _ (c .if2 .taken))
 
--- src/lib.rt:218:1
 returns-2 : tie.Need-returns-2
 returns-2 c = rw (c .before .if1 .taken, ne-eqb _ _ (c .if2 .left))
 
--- src/lib.rt:218:1
 returns-3 : tie.Need-returns-3
 returns-3 c = search needs
 

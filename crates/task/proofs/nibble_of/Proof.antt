@@ -1,5 +1,5 @@
 -- `task::nibble_of` meets its contract. Assumes nothing.
-use mathlib.Core.Path.{_≡_, refl, sym, ap, _∙_}
+use mathlib.Core.Path.{refl, sym}
 use lib.ListN.{List·getD-eq-default}
 use Rattle.task.specs.Page.{nibbles, nibbleOf}
 use borrow.Author.Needs.{needs}
@@ -8,20 +8,16 @@ use Rattle.task.proofs.nibble_of.Tie as tie
 use Rattle.task.proofs.nibble_of.Reads as reads
 use Rattle.task.proofs.nibble_of.Lts as lts
 
--- src/lib.rt:131:16
 cast-page : tie.Need-cast-page
 cast-page c = search needs
 
--- src/lib.rt:132:20
 array-read-result : tie.Need-array-read-result
 array-read-result c = search needs
 
--- src/lib.rt:128:1
 returns : tie.Need-returns
 unfolding nibbleOf
 returns c = refl
 
--- src/lib.rt:128:1
 returns-2 : tie.Need-returns-2
 unfolding nibbleOf
 returns-2 c = sym (List·getD-eq-default nibbles 0 (c .if1 .left))

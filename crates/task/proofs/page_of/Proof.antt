@@ -1,5 +1,5 @@
 -- `task::page_of` meets its contract. Assumes nothing.
-use mathlib.Core.Path.{_≡_, refl, sym, ap, _∙_}
+use mathlib.Core.Path.{refl}
 use Rattle.task.specs.Page.{pageOf}
 use borrow.Author.Needs.{needs}
 use Rattle.task.proofs.page_of.Statement.{statement}
@@ -7,15 +7,12 @@ use Rattle.task.proofs.page_of.Tie as tie
 use Rattle.task.proofs.page_of.Reads as reads
 use Rattle.task.proofs.page_of.Lts as lts
 
--- src/lib.rt:123:18
 cast-nibble : tie.Need-cast-nibble
 cast-nibble c = search needs
 
--- src/lib.rt:124:5
 array-read-result : tie.Need-array-read-result
 array-read-result c = search needs
 
--- src/lib.rt:120:1
 returns : tie.Need-returns
 unfolding pageOf
 returns c = refl

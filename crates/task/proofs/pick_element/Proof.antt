@@ -1,5 +1,4 @@
 -- `task::pick_element` meets its contract. Assumes nothing.
-use mathlib.Core.Path.{_≡_, refl, sym, ap, _∙_}
 use borrow.Author.Tests.{eq-eqb, ne-eqb}
 use Rattle.task.specs.Verdict.{elementOf}
 use Rattle.task.proofs.pick_element.Statement.{statement}
@@ -7,17 +6,14 @@ use Rattle.task.proofs.pick_element.Tie as tie
 use Rattle.task.proofs.pick_element.Reads as reads
 use Rattle.task.proofs.pick_element.Lts as lts
 
--- src/lib.rt:275:13
 returns : tie.Need-returns
 unfolding elementOf
 returns c = rw (c .before .if1 .taken, ne-eqb _ _ (c .if2 .taken))
 
--- src/lib.rt:270:1
 returns-2 : tie.Need-returns-2
 unfolding elementOf
 returns-2 c = rw (c .before .if1 .taken, eq-eqb _ _ (c .if2 .left))
 
--- src/lib.rt:270:1
 returns-3 : tie.Need-returns-3
 unfolding elementOf
 returns-3 c = rw (c .if1 .left)

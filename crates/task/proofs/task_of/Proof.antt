@@ -1,104 +1,148 @@
 -- `task::task_of` meets its contract: each arm is a row of the table. Assumes nothing.
-use mathlib.Core.Path.{_≡_, refl, sym, ap, _∙_}
+use mathlib.Core.Path.{_≡_, refl, sym, _∙_}
+use mathlib.Core.Bool.{true, false, cond}
 use mathlib.Core.Logic.{⊎-elim}
+use Prim.Native.Nat.{_-_}
 use native.Mathlib.Omega.{arith}
+use lib.Dec.{eqb}
 use Rattle.rows.proofs.RangeLaws.{between}
-use Rattle.task.specs.Task.{refused, tasks, taskOf}
+use Rattle.task.specs.declared.Act.the-variants.{Change}
+use Rattle.task.specs.declared.Width.the-variants.{Word, Double}
+use Rattle.task.specs.Task.{task, refused, tasks, taskOf}
 use Rattle.task.proofs.TaskLaws.{refused-on}
 use borrow.Author.Needs.{needs}
 use Rattle.task.proofs.task_of.Statement.{statement}
 use Rattle.task.proofs.task_of.Tie as tie
 use Rattle.task.proofs.task_of.Reads as reads
 use Rattle.task.proofs.task_of.Lts as lts
+use Rattle.task.proofs.row.Reads as row-reads
+use Rattle.task.proofs.width_of.Reads as width-of-reads
 
--- src/lib.rt:78:20
-sub-t19 : tie.Need-sub-t19
-sub-t19 c = search needs
+row-requires : tie.Need-row-requires
+row-requires c κs = search needs
 
--- src/lib.rt:90:20
-sub-t26 : tie.Need-sub-t26
-sub-t26 c = search needs
+row-requires-2 : tie.Need-row-requires-2
+row-requires-2 c κs = search needs
 
--- src/lib.rt:102:20
-sub-t33 : tie.Need-sub-t33
-sub-t33 c = search needs
+row-requires-3 : tie.Need-row-requires-3
+row-requires-3 c κs = search needs
 
--- src/lib.rt:108:20
-sub-t40 : tie.Need-sub-t40
-sub-t40 c = search needs
+row-requires-4 : tie.Need-row-requires-4
+row-requires-4 c κs = search needs
 
--- src/lib.rt:58:1
+width-of-requires : tie.Need-width-of-requires
+width-of-requires c κs = search needs
+
+sub-row : tie.Need-sub-row
+sub-row c = search needs
+
+row-requires-5 : tie.Need-row-requires-5
+row-requires-5 c κs = search needs
+
+width-of-requires-2 : tie.Need-width-of-requires-2
+width-of-requires-2 c κs = search needs
+
+sub-row-2 : tie.Need-sub-row-2
+sub-row-2 c = search needs
+
+row-requires-6 : tie.Need-row-requires-6
+row-requires-6 c κs = search needs
+
+width-of-requires-3 : tie.Need-width-of-requires-3
+width-of-requires-3 c κs = search needs
+
+sub-row-3 : tie.Need-sub-row-3
+sub-row-3 c = search needs
+
+row-requires-7 : tie.Need-row-requires-7
+row-requires-7 c κs = search needs
+
+width-of-requires-4 : tie.Need-width-of-requires-4
+width-of-requires-4 c κs = search needs
+
+sub-row-4 : tie.Need-sub-row-4
+sub-row-4 c = search needs
+
+row-requires-8 : tie.Need-row-requires-8
+row-requires-8 c κs = search needs
+
+row-requires-9 : tie.Need-row-requires-9
+row-requires-9 c κs = search needs
+
 returns : tie.Need-returns
 unfolding taskOf tasks
-returns c = rw (c .match .keys1)
+returns c = c .row .ensures ∙ rw (c .before .match .keys1)
 
--- src/lib.rt:58:1
 returns-2 : tie.Need-returns-2
 unfolding taskOf tasks
-returns-2 c = rw (c .match .keys2)
+returns-2 c = c .row2 .ensures ∙ rw (c .before .match .keys2)
 
--- src/lib.rt:58:1
 returns-3 : tie.Need-returns-3
 unfolding taskOf tasks
-returns-3 c = rw (c .match .keys3)
+returns-3 c = c .row3 .ensures ∙ rw (c .before .match .keys3)
 
--- src/lib.rt:58:1
 returns-4 : tie.Need-returns-4
 unfolding taskOf tasks
-returns-4 c = rw (c .match .keys4)
+returns-4 c = c .row4 .ensures ∙ rw (c .before .match .keys4)
 
--- src/lib.rt:58:1
 returns-5 : tie.Need-returns-5
 unfolding taskOf tasks
 returns-5 c =
-    let i = c .before .before .before .args .id in
-    ⊎-elim (λ w. rw (w .1, w .0 .taken)) (λ w. let e : i ≡ 3 = omega arith in rw (w .1, e)) (c .if2 .came)
+    c .row5 .ensures
+    ∙ rw (c .before .width-of .ensures)
+    (between (λ k. task Change (cond (eqb k 2) Word Double) false (k - 1) ≡ taskOf k) 2 2 (refl, (refl, tt)) (c .before .before .before .before .args .id) (omega arith) (omega arith))
 
--- src/lib.rt:58:1
 returns-6 : tie.Need-returns-6
 unfolding taskOf tasks
 returns-6 c =
-    let i = c .before .before .before .before .before .args .id in
-    ⊎-elim (λ w. rw (w .1, w .0 .taken)) (λ w. let e : i ≡ 8 = omega arith in rw (w .1, e)) (c .if5 .came)
+    c .row6 .ensures
+    ∙ rw (c .before .width-of2 .ensures)
+    (between (λ k. task Change (cond (eqb k 7) Word Double) true (k - 3) ≡ taskOf k) 2 7 (refl, (refl, tt)) (c .before .before .before .before .before .before .args .id) (omega arith) (omega arith))
 
--- src/lib.rt:58:1
 returns-7 : tie.Need-returns-7
 unfolding taskOf tasks
 returns-7 c =
-    let i = c .before .before .before .before .before .before .before .args .id in
-    ⊎-elim (λ w. rw (w .1, w .0 .taken)) (λ w. let e : i ≡ 11 = omega arith in rw (w .1, e)) (c .if8 .came)
+    c .row7 .ensures
+    ∙ rw (c .before .width-of3 .ensures)
+    (between (λ k. task Change (cond (eqb k 12) Word Double) true (16 - k) ≡ taskOf k) 2 11 (refl, (refl, tt)) (c .before .before .before .before .before .before .before .before .args .id) (omega arith) (omega arith))
 
--- src/lib.rt:58:1
 returns-8 : tie.Need-returns-8
 unfolding taskOf tasks
 returns-8 c =
-    let i = c .before .before .before .before .before .before .before .before .args .id in
-    ⊎-elim (λ w. rw (w .1, w .0 .taken)) (λ w. let e : i ≡ 13 = omega arith in rw (w .1, e)) (c .if10 .came)
+    c .row8 .ensures
+    ∙ rw (c .before .width-of4 .ensures)
+    (between (λ k. task Change (cond (eqb k 14) Word Double) false (15 - k) ≡ taskOf k) 2 13 (refl, (refl, tt)) (c .before .before .before .before .before .before .before .before .before .args .id) (omega arith) (omega arith))
 
--- src/lib.rt:58:1
 returns-9 : tie.Need-returns-9
 unfolding taskOf tasks
-returns-9 c = between (λ k. refused ≡ taskOf k) 2 4 (refl, (refl, tt)) (c .before .before .before .args .id) (omega arith) (omega arith)
-
--- src/lib.rt:58:1
-returns-10 : tie.Need-returns-10
-unfolding taskOf tasks
-returns-10 c =
-    let e : c .before .before .before .before .before .args .id ≡ 10 = omega arith in
-    rw e
-
--- src/lib.rt:58:1
-returns-11 : tie.Need-returns-11
-returns-11 c = sym (refused-on (c .before .before .before .before .before .before .before .args .id) (omega arith))
+returns-9 c =
+    let i = c .before .before .before .before .args .id in
+    c .row9 .ensures
+    ∙ ⊎-elim (λ w. between (λ k. refused ≡ taskOf k) 2 4 (refl, (refl, tt)) i (omega arith) (omega arith))
+    (⊎-elim (λ w. let e : i ≡ 10 = omega arith in rw e) (λ w. sym (refused-on i (omega arith))))
+    (c .before .if2 .came)
 
 pub task-of-spec : {M : Type 1} → statement M
 task-of-spec =
     tie.close
     (tie.spec
-    sub-t19
-    sub-t26
-    sub-t33
-    sub-t40
+    row-requires
+    row-requires-2
+    row-requires-3
+    row-requires-4
+    width-of-requires
+    sub-row
+    row-requires-5
+    width-of-requires-2
+    sub-row-2
+    row-requires-6
+    width-of-requires-3
+    sub-row-3
+    row-requires-7
+    width-of-requires-4
+    sub-row-4
+    row-requires-8
+    row-requires-9
     returns
     returns-2
     returns-3
@@ -107,6 +151,4 @@ task-of-spec =
     returns-6
     returns-7
     returns-8
-    returns-9
-    returns-10
-    returns-11)
+    returns-9)

@@ -9,26 +9,21 @@ use Rattle.uss_c.proofs.build.Lts as lts
 use Rattle.master.proofs.build.Reads as build-reads
 use Rattle.uss_c.proofs.number_built.Reads as number-built-reads
 
--- src/lib.rt:257:9
 build-requires : tie.Need-build-requires
 build-requires c κs = search needs
 
--- src/lib.rt:260:17
 number-built-requires : tie.Need-number-built-requires
 number-built-requires c κs = search needs
 
--- src/lib.rt:261:17
 cast-t10 : tie.Need-cast-t10
 cast-t10 c =
     let b = c .before .before .before .before in
     let a = b .before .before .before .before .args in
     omega (arith, built-fits (a .setup) (a .request) (a .net .now) (a .out .now) (b .build .ensures))
 
--- src/lib.rt:254:1
 same-length : tie.Need-same-length
 same-length c = search needs
 
--- src/lib.rt:254:1
 returns : tie.Need-returns
 returns c = build-leaves (c .before .number-built .ensures) (c .before .before .before .before .build .ensures)
 

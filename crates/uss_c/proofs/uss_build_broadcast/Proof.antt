@@ -8,27 +8,21 @@ use Rattle.uss_c.proofs.build.Reads as build-reads
 use Rattle.uss_c.proofs.take_setup.Reads as take-setup-reads
 use Rattle.uss_c.proofs.take_words.Reads as take-words-reads
 
--- src/lib.rt:309:18
 take-words-requires : tie.Need-take-words-requires
 take-words-requires c κs = search needs
 
--- src/lib.rt:311:11
 take-setup-requires : tie.Need-take-setup-requires
 take-setup-requires c κs = search needs
 
--- src/lib.rt:311:39
 slice-aggregate-build : tie.Need-slice-aggregate-build
 slice-aggregate-build c = search needs
 
--- src/lib.rt:311:5
 build-requires : tie.Need-build-requires
 build-requires c κs = search needs
 
--- src/lib.rt:294:1
 same-length : tie.Need-same-length
 same-length c = search needs
 
--- src/lib.rt:294:1
 returns : tie.Need-returns
 returns c =
     let b = c .before .before in

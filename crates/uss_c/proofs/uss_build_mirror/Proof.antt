@@ -7,19 +7,15 @@ use Rattle.uss_c.proofs.uss_build_mirror.Lts as lts
 use Rattle.uss_c.proofs.build.Reads as build-reads
 use Rattle.uss_c.proofs.take_setup.Reads as take-setup-reads
 
--- src/lib.rt:291:11
 take-setup-requires : tie.Need-take-setup-requires
 take-setup-requires c κs = search needs
 
--- src/lib.rt:291:5
 build-requires : tie.Need-build-requires
 build-requires c κs = search needs
 
--- src/lib.rt:287:1
 same-length : tie.Need-same-length
 same-length c = search needs
 
--- src/lib.rt:287:1
 returns : tie.Need-returns
 returns c =
     let b = c .before .before in

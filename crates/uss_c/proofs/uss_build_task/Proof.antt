@@ -8,27 +8,21 @@ use Rattle.uss_c.proofs.build.Reads as build-reads
 use Rattle.uss_c.proofs.ask_task.Reads as ask-task-reads
 use Rattle.uss_c.proofs.take_setup.Reads as take-setup-reads
 
--- src/lib.rt:284:11
 ask-task-requires : tie.Need-ask-task-requires
 ask-task-requires c κs = search needs
 
--- src/lib.rt:282:18
 take-setup-requires : tie.Need-take-setup-requires
 take-setup-requires c κs = search needs
 
--- src/lib.rt:284:39
 slice-aggregate-build : tie.Need-slice-aggregate-build
 slice-aggregate-build c = search needs
 
--- src/lib.rt:284:5
 build-requires : tie.Need-build-requires
 build-requires c κs = search needs
 
--- src/lib.rt:265:1
 same-length : tie.Need-same-length
 same-length c = search needs
 
--- src/lib.rt:265:1
 returns : tie.Need-returns
 returns c =
     let b = c .before .before in

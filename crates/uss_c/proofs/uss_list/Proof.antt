@@ -8,22 +8,18 @@ use Rattle.uss_c.proofs.uss_list.Reads as reads
 use Rattle.uss_c.proofs.uss_list.Lts as lts
 use Rattle.listing.proofs.list.Reads as list-reads
 
--- src/lib.rt:350:5
 list-requires : tie.Need-list-requires
 list-requires c κs = search needs
 
--- src/lib.rt:350:5
 cast-result : tie.Need-cast-result
 cast-result c =
     let l = c .before .before in
     let a = l .before .before .before .before in
     omega (arith, l .list .ensures .0, listed-most (a .args .received .now) (a .args .out .now) (λ i. l .before .before .before .shared-slice-known .given i .fits))
 
--- src/lib.rt:345:1
 same-length : tie.Need-same-length
 same-length c = search needs
 
--- src/lib.rt:345:1
 returns : tie.Need-returns
 returns c = search needs
 

@@ -1,5 +1,4 @@
 -- `uss_c::uss_read_reply` meets its contract: a reading, with its answer as numbers. Assumes nothing.
-use mathlib.Core.Path.{_≡_, refl, sym, ap, _∙_}
 use Rattle.uss_c.proofs.HostLaws.{reply-gives}
 use borrow.Author.Needs.{needs}
 use Rattle.uss_c.proofs.uss_read_reply.Statement.{statement}
@@ -14,35 +13,27 @@ use Rattle.uss_c.proofs.number_read.Reads as number-read-reads
 use Rattle.uss_c.proofs.ask_task.Reads as ask-task-reads
 use Rattle.uss_c.proofs.take_setup.Reads as take-setup-reads
 
--- src/lib.rt:333:31
 take-setup-requires : tie.Need-take-setup-requires
 take-setup-requires c κs = search needs
 
--- src/lib.rt:331:18
 ask-task-requires : tie.Need-ask-task-requires
 ask-task-requires c κs = search needs
 
--- src/lib.rt:333:9
 read-requires : tie.Need-read-requires
 read-requires c κs = search needs
 
--- src/lib.rt:336:17
 number-read-requires : tie.Need-number-read-requires
 number-read-requires c κs = search needs
 
--- src/lib.rt:337:13
 give-id-requires : tie.Need-give-id-requires
 give-id-requires c κs = search needs
 
--- src/lib.rt:338:16
 give-value-requires : tie.Need-give-value-requires
 give-value-requires c κs = search needs
 
--- src/lib.rt:339:18
 give-words-requires : tie.Need-give-words-requires
 give-words-requires c κs = search needs
 
--- src/lib.rt:314:1
 returns : tie.Need-returns
 returns c =
     let v = c .before in

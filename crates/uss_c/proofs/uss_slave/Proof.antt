@@ -12,27 +12,21 @@ use Rattle.uss_c.proofs.number_answer.Reads as number-answer-reads
 use Rattle.uss_c.proofs.take_setup.Reads as take-setup-reads
 use Rattle.uss_c.proofs.take_words.Reads as take-words-reads
 
--- src/lib.rt:235:9
 take-setup-requires : tie.Need-take-setup-requires
 take-setup-requires c κs = search needs
 
--- src/lib.rt:238:9
 take-words-requires : tie.Need-take-words-requires
 take-words-requires c κs = search needs
 
--- src/lib.rt:239:9
 take-words-requires-2 : tie.Need-take-words-requires-2
 take-words-requires-2 c κs = search needs
 
--- src/lib.rt:234:9
 serve-requires : tie.Need-serve-requires
 serve-requires c κs = search needs
 
--- src/lib.rt:245:17
 number-answer-requires : tie.Need-number-answer-requires
 number-answer-requires c κs = search needs
 
--- src/lib.rt:246:17
 cast-t18 : tie.Need-cast-t18
 cast-t18 c =
     let s = c .before .before .before .before .before .before in
@@ -41,19 +35,15 @@ cast-t18 c =
     let a = u .before .before .before .before .before .args in
     omega (arith, served-fits (u .take-setup .result) (a .table .now) (a .values .now) (w .before .take-words .result) (w .take-words2 .result) (a .received .now) (a .reply .now) (s .serve .ensures))
 
--- src/lib.rt:247:18
 give-words-requires : tie.Need-give-words-requires
 give-words-requires c κs = search needs
 
--- src/lib.rt:222:1
 same-length : tie.Need-same-length
 same-length c = search needs
 
--- src/lib.rt:222:1
 same-length-2 : tie.Need-same-length-2
 same-length-2 c = search needs
 
--- src/lib.rt:222:1
 returns : tie.Need-returns
 returns c =
     let n = c .before .before in

@@ -1,18 +1,14 @@
--- When a slave call replies, and what it sends, stores and takes. Assumes nothing.
---     replied-exactly     it replies exactly to a sound normal telegram of its node and length, with a sound opening
---     mirrored-exactly    it mirrors exactly a sound mirror telegram of its node
---     taken-exactly       it takes exactly a broadcast of its length that is not void
+-- What a slave call that replies sends, stores and takes. Assumes nothing.
 --     reply-sound         a reply passes the frame check and has the task's node and lengths
 --     mirror-same         a mirror's reply is the received telegram, byte for byte
 --     change-stored       a granted change stores the value that it carries at the place that it means, and nowhere else
 --     control-replaced    with bit 10, the first PZD control words are those received
-use Prim.Native.Nat.{ℕ, _+_, _-_, _/_, _%_, _≤_, _<_}
+use Prim.Native.Nat.{ℕ, _+_, _/_, _%_, _≤_, _<_}
 use mathlib.Core.Path.{_≡_, refl, sym, ap, _∙_}
-use mathlib.Core.Logic.{_↔_}
-use mathlib.Core.Bool.{false, false≢true}
+use mathlib.Core.Bool.{false}
 use mathlib.Core.List.{List}
 use native.Mathlib.Omega.{arith}
-use borrow.Author.Tests.{lt-leb, eq-eqb, ne-eqb}
+use borrow.Author.Tests.{lt-leb, ne-eqb}
 use lib.ListN.{length, take, drop, set}
 use lib.Seq.{take-at, drop-at}
 use Rattle.words.specs.declared.Words.{Words}
@@ -20,98 +16,27 @@ use Rattle.setup.specs.declared.Setup.{Setup}
 use Rattle.setup.proofs.SetupLaws.{configured, area-few}
 use Rattle.table.specs.Records.{entryAt, entries, firstPlace}
 use Rattle.table.proofs.RecordsLaws.{places-fit}
-use Rattle.frame.specs.Frame.{frameOf, lastOf}
+use Rattle.frame.specs.Frame.{frameOf}
 use Rattle.frame.specs.Address.{addressOf, kindOf, decodedOf}
 use Rattle.frame.specs.declared.Address.{Address}
 use Rattle.frame.specs.declared.Address.the-variants.{ToOne}
 use Rattle.frame.specs.declared.FrameCheck.the-variants.{Sound}
-use Rattle.frame.specs.declared.Decoded.the-variants.{Normal, Mirror, Broadcast}
+use Rattle.frame.specs.declared.Decoded.the-variants.{Normal}
 use Rattle.frame.proofs.DecodedLaws.{telegram-framed, normal-bounds}
-use Rattle.opening.specs.Answers.{openingOf}
-use Rattle.opening.specs.declared.Opening.the-variants.{Passed}
 use Rattle.opening.proofs.AnswersLaws.{opened}
 use Rattle.net.specs.Net.{netOf}
 use Rattle.net.specs.Read.{processAt}
 use Rattle.net.proofs.NetLaws.{length-net}
 use Rattle.net.proofs.SealLaws.{passes}
-use Rattle.broadcast.specs.Broadcast.{isVoid}
-use Rattle.slave.specs.declared.Answer.the-variants.{Replied, Mirrored, Taken}
+use Rattle.slave.specs.declared.Answer.the-variants.{Replied, Mirrored}
 use Rattle.setup.specs.SetupRules.{netBytes}
-use Rattle.slave.specs.Slave.{Outcome, answerNumber, written, firstWord, commandAt, taskDone, replyOf, controlTaken, normalOutcome, mirrorCase, callOf}
-use Rattle.slave.proofs.CaseLaws.{normal-replied, broadcast-taken, executed, called}
+use Rattle.slave.specs.Slave.{written, firstWord, taskDone, replyOf, controlTaken, callOf}
 use Rattle.task.specs.declared.Act.{Act}
 use Rattle.slave.specs.Perform.{idle, doneOf, performOf}
 use Rattle.slave.proofs.PerformLaws.{task-granted, granted-place}
-use Rattle.claims_slave.specs.Outcomes.{isRefused, mirrorOutcome, takenOutcome, SoundReply, SameReply, areaIn, taskIn, GrantedChange, placeIn, valueIn}
-use Rattle.claims_slave.proofs.Cases.{call-cases}
+use Rattle.claims_slave.specs.Outcomes.{SoundReply, SameReply, areaIn, taskIn, GrantedChange, placeIn, valueIn}
 use Rattle.claims_slave.proofs.Kept.{reply-long, found-is}
-
--- ---- when
-
-module _ (s : Setup) (t vs : List ℕ) (control status : Words) (rx out : List ℕ) where
-  abbrev after : Outcome
-  after = callOf s t vs control status rx out
-
-  abbrev opens : Type 0
-  opens = openingOf s t vs (length out) ≡ Passed
-
-  abbrev notVoid : Type 0
-  notVoid = isVoid (commandAt rx (s .pkw)) (s .pkw) (s .pzd) (firstWord s rx) ≡ false
-
-  pub replied-call : openingOf s t vs (length out) ≡ Passed → decodedOf rx ≡ Normal (s .node) 3 (3 + netBytes s)
-      → callOf s t vs control status rx out ≡ normalOutcome s t vs control status rx out
-  replied-call p d =
-      called s t vs control status rx out Passed p ∙ executed s t vs control status rx out (Normal (s .node) 3 (3 + netBytes s)) d
-      ∙ normal-replied (s .node) (3 + netBytes s - 3) s t vs control status rx out refl (omega arith)
-
-  pub mirrored-call : openingOf s t vs (length out) ≡ Passed → decodedOf rx ≡ Mirror (s .node)
-      → callOf s t vs control status rx out ≡ mirrorOutcome control vs rx out
-  unfolding mirrorCase
-  mirrored-call p d =
-      called s t vs control status rx out Passed p ∙ executed s t vs control status rx out (Mirror (s .node)) d ∙ rw (eq-eqb (s .node) (s .node) refl)
-
-  pub taken-call : openingOf s t vs (length out) ≡ Passed → decodedOf rx ≡ Broadcast → length rx ≡ netBytes s + 4
-      → isVoid (commandAt rx (s .pkw)) (s .pkw) (s .pzd) (firstWord s rx) ≡ false
-      → callOf s t vs control status rx out ≡ takenOutcome s control vs rx out
-  taken-call p d l v =
-      called s t vs control status rx out Passed p ∙ executed s t vs control status rx out Broadcast d
-      ∙ rw (broadcast-taken (length rx - 4) s control rx (omega arith) v)
-
-  pub replied-exactly : (callOf s t vs control status rx out .served .answer ≡ Replied)
-      ↔ ((openingOf s t vs (length out) ≡ Passed) × (decodedOf rx ≡ Normal (s .node) 3 (3 + netBytes s)))
-  replied-exactly = (
-    call-cases s t vs control status rx out (λ o. o .served .answer ≡ Replied → opens × (decodedOf rx ≡ Normal (s .node) 3 (3 + netBytes s)))
-        (λ r b e. absurd (false≢true (sym (ap isRefused e))))
-        (λ p d l e. let f = telegram-framed rx (Normal (s .node) 3 (lastOf rx)) d refl in
-        let n : lastOf rx ≡ 3 + netBytes s = omega (arith, f .counted .long) in
-        (p, d ∙ ap (λ (k : ℕ). Normal (s .node) 3 k) n))
-        (λ p d e. absurd (omega (arith, ap answerNumber e)))
-        (λ p d l v e. absurd (omega (arith, ap answerNumber e))),
-    λ h. ap (λ (o : Outcome). o .served .answer) (replied-call (h .0) (h .1)),
-  )
-
-  pub mirrored-exactly : (callOf s t vs control status rx out .served .answer ≡ Mirrored) ↔ ((openingOf s t vs (length out) ≡ Passed) × (decodedOf rx ≡ Mirror (s .node)))
-  mirrored-exactly = (
-    call-cases s t vs control status rx out (λ o. o .served .answer ≡ Mirrored → opens × (decodedOf rx ≡ Mirror (s .node)))
-        (λ r b e. absurd (false≢true (sym (ap isRefused e))))
-        (λ p d l e. absurd (omega (arith, ap answerNumber e)))
-        (λ p d e. (p, d))
-        (λ p d l v e. absurd (omega (arith, ap answerNumber e))),
-    λ h. ap (λ (o : Outcome). o .served .answer) (mirrored-call (h .0) (h .1)),
-  )
-
-  pub taken-exactly : (callOf s t vs control status rx out .served .answer ≡ Taken)
-      ↔ ((openingOf s t vs (length out) ≡ Passed) × (decodedOf rx ≡ Broadcast) × (length rx ≡ netBytes s + 4)
-      × (isVoid (commandAt rx (s .pkw)) (s .pkw) (s .pzd) (firstWord s rx) ≡ false))
-  taken-exactly = (
-    call-cases s t vs control status rx out (λ o. o .served .answer ≡ Taken → opens × (decodedOf rx ≡ Broadcast) × (length rx ≡ netBytes s + 4) × notVoid)
-        (λ r b e. absurd (false≢true (sym (ap isRefused e))))
-        (λ p d l e. absurd (omega (arith, ap answerNumber e)))
-        (λ p d e. absurd (omega (arith, ap answerNumber e)))
-        (λ p d l v e. let f = telegram-framed rx Broadcast d refl in
-        (p, d, omega (arith, f .counted .long), v)),
-    λ h. ap (λ (o : Outcome). o .served .answer) (taken-call (h .0) (h .1) (h .2) (h .3)),
-  )
+use Rattle.claims_slave.proofs.WhenAnswered.{replied-call, mirrored-call, replied-exactly, mirrored-exactly}
 
 -- ---- replies
 
