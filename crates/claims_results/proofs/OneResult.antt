@@ -22,9 +22,7 @@ use Rattle.entry.proofs.count_places.Reads as entry-count-places
 use Rattle.entry.proofs.at_most.Reads as entry-at-most
 use Rattle.entry.proofs.within.Reads as entry-within
 use Rattle.entry.proofs.entry_ok.Reads as entry-entry-ok
-use Rattle.table.proofs.entry_at.Reads as table-entry-at
 use Rattle.table.proofs.find.Reads as table-find
-use Rattle.table.proofs.first_place.Reads as table-first-place
 use Rattle.opening.proofs.«open».Reads as opening-open
 use Rattle.net.proofs.read_area.Reads as net-read-area
 use Rattle.net.proofs.read_process.Reads as net-read-process
@@ -125,14 +123,8 @@ entry-within-one κs a r r′ s s′ = equal-through
 pub entry-entry-ok-one : OneResult entry-entry-ok.Post
 entry-entry-ok-one κs a r r′ s s′ = equal-through
 
-pub table-entry-at-one : OneResult table-entry-at.Post
-table-entry-at-one κs a r r′ s s′ = equal-through
-
 pub table-find-one : OneResult table-find.Post
 table-find-one κs a r r′ s s′ = equal-through
-
-pub table-first-place-one : OneResult table-first-place.Post
-table-first-place-one κs a r r′ s s′ = equal-through
 
 pub opening-open-one : OneResult opening-open.Post
 opening-open-one κs a r r′ s s′ = equal-through

@@ -394,9 +394,10 @@ fn serve_broadcast(setup: Setup, control: Words, received: &[u8], n: usize) -> S
         return refuse(Refusal::VoidBroadcast, control);
     }
     let process = net::read_process(received, setup.pkw, setup.pzd, control);
+    let length = 0;
     Served {
         answer: Answer::Taken,
-        length: 0,
+        length,
         control: broadcast::command_control(command, control, process),
     }
 }

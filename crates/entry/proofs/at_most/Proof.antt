@@ -8,27 +8,22 @@ use Rattle.entry.proofs.at_most.Reads as reads
 use Rattle.entry.proofs.at_most.Lts as lts
 use Rattle.entry.proofs.to_signed.Reads as to-signed-reads
 
--- src/lib.rt:66:16
 to-signed-requires : tie.Need-to-signed-requires
 to-signed-requires c κs = search needs
 
--- src/lib.rt:66:40
 to-signed-requires-2 : tie.Need-to-signed-requires-2
 to-signed-requires-2 c κs = search needs
 
--- src/lib.rt:66:9
 returns : tie.Need-returns
 unfolding atMost numberOf
 returns c =
     rw (c .before .before .if1 .taken)
     (compared _ _ _ _ (search needs) (search needs) (c .before .to-signed .ensures) (c .to-signed2 .ensures))
 
--- src/lib.rt:69:9
 returns-2 : tie.Need-returns-2
 unfolding atMost numberOf
 returns-2 c = rw (c .before .if1 .left, c .if2 .taken)
 
--- src/lib.rt:62:1
 returns-3 : tie.Need-returns-3
 unfolding atMost numberOf
 returns-3 c = rw (c .before .if1 .left, c .if2 .left)

@@ -7,15 +7,12 @@ use Rattle.entry.proofs.count_places.Tie as tie
 use Rattle.entry.proofs.count_places.Reads as reads
 use Rattle.entry.proofs.count_places.Lts as lts
 
--- src/lib.rt:40:9
 cast-result : tie.Need-cast-result
 cast-result c = search needs
 
--- src/lib.rt:34:1
 returns : tie.Need-returns
 returns c = sym (count-none _ (c .if1 .taken))
 
--- src/lib.rt:34:1
 returns-2 : tie.Need-returns-2
 returns-2 c = sym (count-some _ (c .before .if1 .left))
 

@@ -7,19 +7,15 @@ use Rattle.entry.proofs.entry_of.Tie as tie
 use Rattle.entry.proofs.entry_of.Reads as reads
 use Rattle.entry.proofs.entry_of.Lts as lts
 
--- src/lib.rt:22:17
 cast-t5 : tie.Need-cast-t5
 cast-t5 c = search needs
 
--- src/lib.rt:26:19
 cast-t17 : tie.Need-cast-t17
 cast-t17 c = search needs
 
--- src/lib.rt:27:16
 cast-t19 : tie.Need-cast-t19
 cast-t19 c = search needs
 
--- src/lib.rt:18:1
 returns : tie.Need-returns
 unfolding entryOf
 returns c = refl

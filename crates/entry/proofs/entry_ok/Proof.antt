@@ -10,34 +10,27 @@ use Rattle.entry.proofs.entry_ok.Lts as lts
 use Rattle.entry.proofs.at_most.Reads as at-most-reads
 use Rattle.entry.proofs.fits_in.Reads as fits-in-reads
 
--- src/lib.rt:98:9
 returns : tie.Need-returns
 unfolding entryOk
 returns c = search tests
 
--- src/lib.rt:101:9
 returns-2 : tie.Need-returns-2
 unfolding entryOk
 returns-2 c = search tests
 
--- src/lib.rt:104:9
 returns-3 : tie.Need-returns-3
 unfolding entryOk
 returns-3 c = search tests
 
--- src/lib.rt:106:8
 fits-in-requires : tie.Need-fits-in-requires
 fits-in-requires c κs = search needs
 
--- src/lib.rt:107:12
 fits-in-requires-2 : tie.Need-fits-in-requires-2
 fits-in-requires-2 c κs = search needs
 
--- src/lib.rt:108:13
 at-most-requires : tie.Need-at-most-requires
 at-most-requires c κs = search needs
 
--- src/lib.rt:108:13
 returns-4 : tie.Need-returns-4
 unfolding entryOk
 returns-4 c =
@@ -45,7 +38,6 @@ returns-4 c =
     let a = b .before .before in
     search (tests, sym (a .fits-in .ensures) ∙ b .before .if4 .taken, sym (b .fits-in2 .ensures) ∙ c .before .if5 .taken, c .at-most .ensures)
 
--- src/lib.rt:94:1
 returns-5 : tie.Need-returns-5
 unfolding entryOk
 returns-5 c =
@@ -53,7 +45,6 @@ returns-5 c =
     let a = b .before .before in
     search (tests, sym (a .fits-in .ensures) ∙ b .before .if4 .taken, sym (b .fits-in2 .ensures) ∙ c .if5 .left)
 
--- src/lib.rt:94:1
 returns-6 : tie.Need-returns-6
 unfolding entryOk
 returns-6 c = search (tests, sym (c .before .fits-in .ensures) ∙ c .if4 .left)

@@ -5,12 +5,10 @@ use Rattle.entry.proofs.fits_in.Tie as tie
 use Rattle.entry.proofs.fits_in.Reads as reads
 use Rattle.entry.proofs.fits_in.Lts as lts
 
--- src/lib.rt:75:1
 returns : tie.Need-returns
 unfolding fitsIn
 returns c = rw (c .if1 .taken)
 
--- src/lib.rt:75:1
 returns-2 : tie.Need-returns-2
 unfolding fitsIn
 returns-2 c = rw (c .if1 .left)

@@ -10,43 +10,34 @@ use Rattle.entry.proofs.to_signed.Tie as tie
 use Rattle.entry.proofs.to_signed.Reads as reads
 use Rattle.entry.proofs.to_signed.Lts as lts
 
--- src/lib.rt:50:20
 cast-result : tie.Need-cast-result
 cast-result c = search needs
 
--- src/lib.rt:50:13
 returns : tie.Need-returns
 unfolding signedOf
 returns c = rw (c .before .if1 .taken)
 
--- src/lib.rt:52:23
 sub-result : tie.Need-sub-result
 sub-result c = search needs
 
--- src/lib.rt:52:22
 cast-result-2 : tie.Need-cast-result-2
 cast-result-2 c = search needs
 
--- src/lib.rt:52:16
 sub-result-2 : tie.Need-sub-result-2
 sub-result-2 c = flip-fits (4294967295 - c .before .before .args .x) (omega arith)
 
--- src/lib.rt:52:9
 returns-2 : tie.Need-returns-2
 unfolding signedOf
 returns-2 c =
     let x = c .before .before .args .x in
     rw (c .before .if1 .taken) (flip-is (4294967295 - x) (omega arith) w32 x (omega arith) (omega arith))
 
--- src/lib.rt:54:6
 cast-result-3 : tie.Need-cast-result-3
 cast-result-3 c = flip-word-fits (c .before .args .x % 65536) (omega arith)
 
--- src/lib.rt:54:5
 sub-result-3 : tie.Need-sub-result-3
 sub-result-3 c = word-fits-less (c .before .args .x % 65536) (omega arith)
 
--- src/lib.rt:45:1
 returns-3 : tie.Need-returns-3
 unfolding signedOf
 returns-3 c = rw (c .if1 .left) (word-back (c .before .args .x % 65536) (omega arith))

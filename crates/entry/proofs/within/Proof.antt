@@ -9,33 +9,27 @@ use Rattle.entry.proofs.within.Lts as lts
 use Rattle.entry.proofs.at_most.Reads as at-most-reads
 use Rattle.entry.proofs.fits_in.Reads as fits-in-reads
 
--- src/lib.rt:85:8
 fits-in-requires : tie.Need-fits-in-requires
 fits-in-requires c κs = search needs
 
--- src/lib.rt:86:12
 at-most-requires : tie.Need-at-most-requires
 at-most-requires c κs = search needs
 
--- src/lib.rt:87:13
 at-most-requires-2 : tie.Need-at-most-requires-2
 at-most-requires-2 c κs = search needs
 
--- src/lib.rt:87:13
 returns : tie.Need-returns
 unfolding isWithin
 returns c =
     let a = c .before .before in
     search (sym (a .before .before .fits-in .ensures) ∙ a .before .if1 .taken, sym (a .at-most .ensures) ∙ c .before .if2 .taken, c .at-most2 .ensures)
 
--- src/lib.rt:82:1
 returns-2 : tie.Need-returns-2
 unfolding isWithin
 returns-2 c =
     let a = c .before in
     search (sym (a .before .before .fits-in .ensures) ∙ a .before .if1 .taken, sym (a .at-most .ensures) ∙ c .if2 .left)
 
--- src/lib.rt:82:1
 returns-3 : tie.Need-returns-3
 unfolding isWithin
 returns-3 c = rw (sym (c .before .fits-in .ensures) ∙ c .if1 .left)

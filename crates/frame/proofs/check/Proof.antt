@@ -11,72 +11,56 @@ use Rattle.frame.proofs.check.Reads as reads
 use Rattle.frame.proofs.check.Lts as lts
 use Rattle.frame.proofs.bcc.Reads as bcc-reads
 
--- src/lib.rt:71:9
 returns : tie.Need-returns
 unfolding frameOf
 returns c = search tests
 
--- src/lib.rt:73:8
 shared-slice-read-if2 : tie.Need-shared-slice-read-if2
 shared-slice-read-if2 c = search needs
 
--- src/lib.rt:74:9
 returns-2 : tie.Need-returns-2
 unfolding frameOf
 returns-2 c = search tests
 
--- src/lib.rt:76:18
 shared-slice-read-second : tie.Need-shared-slice-read-second
 shared-slice-read-second c = search needs
 
--- src/lib.rt:77:15
 cast-lge : tie.Need-cast-lge
 cast-lge c = omega (arith, c .shared-slice-known3 .given 1)
 
--- src/lib.rt:79:9
 returns-3 : tie.Need-returns-3
 unfolding frameOf
 returns-3 c = search tests
 
--- src/lib.rt:82:9
 returns-4 : tie.Need-returns-4
 unfolding frameOf
 returns-4 c = search tests
 
--- src/lib.rt:84:13
 add-if5 : tie.Need-add-if5
 add-if5 c = search needs
 
--- src/lib.rt:85:9
 returns-5 : tie.Need-returns-5
 unfolding frameOf
 returns-5 c = search tests
 
--- src/lib.rt:87:16
 add-last : tie.Need-add-last
 add-last c = search needs
 
--- src/lib.rt:88:20
 sub-bcc : tie.Need-sub-bcc
 sub-bcc c = search needs
 
--- src/lib.rt:88:20
 part-bcc-start : tie.Need-part-bcc-start
 part-bcc-start c = search needs
 
--- src/lib.rt:88:20
 part-bcc-end : tie.Need-part-bcc-end
 part-bcc-end c = search needs
 
--- src/lib.rt:88:9
 bcc-requires : tie.Need-bcc-requires
 bcc-requires c κs = search needs
 
--- src/lib.rt:89:8
 shared-slice-read-if6 : tie.Need-shared-slice-read-if6
 shared-slice-read-if6 c = search needs
 
--- src/lib.rt:89:41
 shared-slice-read-if6-2 : tie.Need-shared-slice-read-if6-2
 shared-slice-read-if6-2 c = search needs
 
@@ -91,7 +75,6 @@ counted c =
       count = d .if5 .left;
     }
 
--- src/lib.rt:90:9
 returns-6 : tie.Need-returns-6
 returns-6 c =
     let b = c .before .before .before in
@@ -99,7 +82,6 @@ returns-6 c =
     let e = last-counted _ k in
     sym (check-wrong _ k (λ w. c .if6 .taken (rw (e, b .bcc .ensures) (w ∙ sym (reckoned _ k)))))
 
--- src/lib.rt:66:1
 returns-7 : tie.Need-returns-7
 returns-7 c =
     let b = c .before .before .before in

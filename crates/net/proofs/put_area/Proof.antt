@@ -14,41 +14,32 @@ use Rattle.net.proofs.put_area.Lts as lts
 use Rattle.net.proofs.put_value.Reads as put-value-reads
 use Rattle.net.proofs.put_word.Reads as put-word-reads
 
--- src/lib.rt:76:9
 returns : tie.Need-returns
 unfolding areaWords
 returns c = rw (c .if1 .taken)
 
--- src/lib.rt:78:5
 put-word-requires : tie.Need-put-word-requires
 put-word-requires c κs = search needs
 
--- src/lib.rt:80:9
 same-length : tie.Need-same-length
 same-length c = search needs
 
--- src/lib.rt:80:9
 returns-2 : tie.Need-returns-2
 unfolding areaWords
 returns-2 c = rw (c .if2 .taken) (c .before .before .before .put-word .ensures)
 
--- src/lib.rt:82:5
 put-word-requires-2 : tie.Need-put-word-requires-2
 put-word-requires-2 c κs = search needs
 
--- src/lib.rt:83:35
 sub-put-value : tie.Need-sub-put-value
 sub-put-value c = search needs
 
--- src/lib.rt:83:5
 put-value-requires : tie.Need-put-value-requires
 put-value-requires c κs = search needs
 
--- src/lib.rt:71:1
 same-length-2 : tie.Need-same-length-2
 same-length-2 c = search needs
 
--- src/lib.rt:71:1
 returns-3 : tie.Need-returns-3
 returns-3 c =
     let v = c .before .before in

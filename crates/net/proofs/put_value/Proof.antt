@@ -12,51 +12,39 @@ use Rattle.net.proofs.put_value.Reads as reads
 use Rattle.net.proofs.put_value.Lts as lts
 use Rattle.net.proofs.put_word.Reads as put-word-reads
 
--- src/lib.rt:60:9
 returns : tie.Need-returns
 returns c = search needs
 
--- src/lib.rt:63:27
 cast-put-word : tie.Need-cast-put-word
 cast-put-word c = search needs
 
--- src/lib.rt:63:9
 put-word-requires : tie.Need-put-word-requires
 put-word-requires c κs = search needs
 
--- src/lib.rt:64:9
 same-length : tie.Need-same-length
 same-length c = search needs
 
--- src/lib.rt:64:9
 returns-2 : tie.Need-returns-2
 returns-2 c = rw (c .before .before .before .before .if2 .taken) (c .before .before .put-word .ensures)
 
--- src/lib.rt:66:23
 cast-put-word-2 : tie.Need-cast-put-word-2
 cast-put-word-2 c = search needs
 
--- src/lib.rt:66:5
 put-word-requires-2 : tie.Need-put-word-requires-2
 put-word-requires-2 c κs = search needs
 
--- src/lib.rt:67:19
 add-put-word : tie.Need-add-put-word
 add-put-word c = search needs
 
--- src/lib.rt:67:27
 cast-put-word-3 : tie.Need-cast-put-word-3
 cast-put-word-3 c = search needs
 
--- src/lib.rt:67:5
 put-word-requires-3 : tie.Need-put-word-requires-3
 put-word-requires-3 c κs = search needs
 
--- src/lib.rt:55:1
 same-length-2 : tie.Need-same-length-2
 same-length-2 c = search needs
 
--- src/lib.rt:55:1
 returns-3 : tie.Need-returns-3
 returns-3 c =
     let p = c .before .before in

@@ -12,49 +12,38 @@ use Rattle.net.proofs.put_word.Tie as tie
 use Rattle.net.proofs.put_word.Reads as reads
 use Rattle.net.proofs.put_word.Lts as lts
 
--- src/lib.rt:24:19
 cast-out : tie.Need-cast-out
 cast-out c = search needs
 
--- src/lib.rt:24:9
 slice-write-out : tie.Need-slice-write-out
 slice-write-out c = search needs
 
--- src/lib.rt:25:12
 add-if2 : tie.Need-add-if2
 add-if2 c = search needs
 
--- src/lib.rt:26:27
 cast-out-2 : tie.Need-cast-out-2
 cast-out-2 c = search needs
 
--- src/lib.rt:26:17
 add-out : tie.Need-add-out
 add-out c = search needs
 
--- src/lib.rt:26:13
 slice-write-out-2 : tie.Need-slice-write-out-2
 slice-write-out-2 c = search needs
 
--- src/lib.rt:20:1
 same-length : tie.Need-same-length
 same-length c = search needs
 
--- src/lib.rt:20:1
 returns : tie.Need-returns
 returns c = rw add-one
 
--- src/lib.rt:20:1
 same-length-2 : tie.Need-same-length-2
 same-length-2 c = search needs
 
--- src/lib.rt:20:1
 returns-2 : tie.Need-returns-2
 returns-2 c =
     let l = set (c .before .before .args .out .now) (c .before .before .args .at) (c .before .before .args .w / 256) in
     sym (set-out l _ _ (simp length-set (omega arith)))
 
--- src/lib.rt:20:1
 returns-3 : tie.Need-returns-3
 returns-3 c = sym (rw (set-out (c .before .args .out .now) (c .before .args .at) _ (c .if1 .left)) (set-out _ _ _ (omega arith)))
 

@@ -12,19 +12,15 @@ use Rattle.net.proofs.put_words.Reads as reads
 use Rattle.net.proofs.put_words.Lts as lts
 use Rattle.net.proofs.put_word.Reads as put-word-reads
 
--- src/lib.rt:37:9
 returns : tie.Need-returns
 returns c = search needs
 
--- src/lib.rt:39:5
 put-word-requires : tie.Need-put-word-requires
 put-word-requires c κs = search needs
 
--- src/lib.rt:41:9
 same-length : tie.Need-same-length
 same-length c = search needs
 
--- src/lib.rt:41:9
 two : (c : tie.After-put-word2) → (let a = c .before .before .before .before .before .before .before .before .before .args in c .put-word2 .last .0 ≡ sets (a .out .now) (a .at) (bytesOf (a .w .w1 ∷ a .w .w2 ∷ [])))
 two c =
     let a = c .before .before .before .before .before .before .before .before .before .args in
@@ -43,51 +39,39 @@ four c =
 returns-2 : tie.Need-returns-2
 returns-2 c = rw (c .if2 .taken) (c .before .before .before .put-word .ensures)
 
--- src/lib.rt:43:19
 add-put-word : tie.Need-add-put-word
 add-put-word c = search needs
 
--- src/lib.rt:43:5
 put-word-requires-2 : tie.Need-put-word-requires-2
 put-word-requires-2 c κs = search needs
 
--- src/lib.rt:45:9
 same-length-2 : tie.Need-same-length-2
 same-length-2 c = search needs
 
--- src/lib.rt:45:9
 returns-3 : tie.Need-returns-3
 returns-3 c = rw (c .if3 .taken) (two (c .before .before .before))
 
--- src/lib.rt:47:19
 add-put-word-2 : tie.Need-add-put-word-2
 add-put-word-2 c = search needs
 
--- src/lib.rt:47:5
 put-word-requires-3 : tie.Need-put-word-requires-3
 put-word-requires-3 c κs = search needs
 
--- src/lib.rt:49:9
 same-length-3 : tie.Need-same-length-3
 same-length-3 c = search needs
 
--- src/lib.rt:49:9
 returns-4 : tie.Need-returns-4
 returns-4 c = rw (c .if4 .taken) (three (c .before .before .before))
 
--- src/lib.rt:51:19
 add-put-word-3 : tie.Need-add-put-word-3
 add-put-word-3 c = search needs
 
--- src/lib.rt:51:5
 put-word-requires-4 : tie.Need-put-word-requires-4
 put-word-requires-4 c κs = search needs
 
--- src/lib.rt:32:1
 same-length-4 : tie.Need-same-length-4
 same-length-4 c = search needs
 
--- src/lib.rt:32:1
 returns-5 : tie.Need-returns-5
 returns-5 c =
     let e : c .before .before .before .before .before .before .before .before .before .before .before .before .before .before .before .before .before .before .before .before .before .args .count ≡ 4 = omega arith in

@@ -12,19 +12,15 @@ use Rattle.net.proofs.read_area.Lts as lts
 use Rattle.net.proofs.read_value.Reads as read-value-reads
 use Rattle.words.proofs.word_at.Reads as word-at-reads
 
--- src/lib.rt:150:9
 word-at-requires : tie.Need-word-at-requires
 word-at-requires c κs = search needs
 
--- src/lib.rt:151:9
 word-at-requires-2 : tie.Need-word-at-requires-2
 word-at-requires-2 c κs = search needs
 
--- src/lib.rt:153:9
 read-value-requires : tie.Need-read-value-requires
 read-value-requires c κs = search needs
 
--- src/lib.rt:147:1
 returns : tie.Need-returns
 unfolding areaAt
 returns c =

@@ -11,47 +11,37 @@ use Rattle.net.proofs.read_value.Lts as lts
 use Rattle.words.proofs.double_at.Reads as double-at-reads
 use Rattle.words.proofs.word_at.Reads as word-at-reads
 
--- src/lib.rt:137:9
 returns : tie.Need-returns
 unfolding valueAt
 returns c = rw (c .if1 .taken)
 
--- src/lib.rt:140:16
 word-at-requires : tie.Need-word-at-requires
 word-at-requires c κs = search needs
 
--- src/lib.rt:140:16
 cast-result : tie.Need-cast-result
 cast-result c = search needs
 
--- src/lib.rt:140:9
 returns-2 : tie.Need-returns-2
 unfolding valueAt
 returns-2 c = rw (c .before .if2 .taken) (omega (arith, c .word-at .ensures))
 
--- src/lib.rt:143:16
 double-at-requires : tie.Need-double-at-requires
 double-at-requires c κs = search needs
 
--- src/lib.rt:143:16
 returns-3 : tie.Need-returns-3
 returns-3 c =
     let k = c .before .before .before .before in
     rw (c .before .if3 .taken) (c .double-at .ensures ∙ sym (value-last _ 2 (λ i. k .shared-slice-known .given i .fits) (omega arith)))
 
--- src/lib.rt:145:25
 mul-double-at : tie.Need-mul-double-at
 mul-double-at c = search needs
 
--- src/lib.rt:145:25
 add-double-at : tie.Need-add-double-at
 add-double-at c = search needs
 
--- src/lib.rt:145:5
 double-at-requires-2 : tie.Need-double-at-requires-2
 double-at-requires-2 c κs = search needs
 
--- src/lib.rt:133:1
 returns-4 : tie.Need-returns-4
 returns-4 c =
     let k = c .before .before .before .before in

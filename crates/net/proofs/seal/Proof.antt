@@ -12,59 +12,45 @@ use Rattle.net.proofs.seal.Reads as reads
 use Rattle.net.proofs.seal.Lts as lts
 use Rattle.frame.proofs.bcc.Reads as bcc-reads
 
--- src/lib.rt:95:28
 add-lge : tie.Need-add-lge
 add-lge c = search needs
 
--- src/lib.rt:95:27
 cast-lge : tie.Need-cast-lge
 cast-lge c = search needs
 
--- src/lib.rt:96:17
 slice-write-out : tie.Need-slice-write-out
 slice-write-out c = search needs
 
--- src/lib.rt:97:17
 slice-write-out-2 : tie.Need-slice-write-out-2
 slice-write-out-2 c = simp length-set (omega arith)
 
--- src/lib.rt:98:17
 slice-write-out-3 : tie.Need-slice-write-out-3
 slice-write-out-3 c = simp length-set (omega arith)
 
--- src/lib.rt:99:28
 add-last : tie.Need-add-last
 add-last c = search needs
 
--- src/lib.rt:100:39
 sub-bcc : tie.Need-sub-bcc
 sub-bcc c = search needs
 
--- src/lib.rt:100:39
 part-bcc-start : tie.Need-part-bcc-start
 part-bcc-start c = search needs
 
--- src/lib.rt:100:39
 part-bcc-end : tie.Need-part-bcc-end
 part-bcc-end c = simp length-set (omega arith)
 
--- src/lib.rt:100:21
 bcc-requires : tie.Need-bcc-requires
 bcc-requires c κs = search needs
 
--- src/lib.rt:101:17
 slice-write-out-4 : tie.Need-slice-write-out-4
 slice-write-out-4 c = simp length-set (omega arith)
 
--- src/lib.rt:102:24
 add-result : tie.Need-add-result
 add-result c = search needs
 
--- src/lib.rt:102:17
 same-length : tie.Need-same-length
 same-length c = search needs
 
--- src/lib.rt:102:17
 returns : tie.Need-returns
 unfolding sealedOf sealedLength
 returns c =
@@ -77,17 +63,14 @@ returns c =
       simp (room, some, fits, c .bcc .ensures) (written (a .out .now) (a .adr) (a .n) (d .before .before .if1 .taken) (d .if3 .taken)),
     )
 
--- src/lib.rt:89:1
 returns-2 : tie.Need-returns-2
 unfolding sealedOf sealedLength
 returns-2 c = search tests
 
--- src/lib.rt:89:1
 returns-3 : tie.Need-returns-3
 unfolding sealedOf sealedLength
 returns-3 c = search tests
 
--- src/lib.rt:89:1
 returns-4 : tie.Need-returns-4
 unfolding sealedOf sealedLength
 returns-4 c = search tests

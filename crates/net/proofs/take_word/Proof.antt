@@ -6,15 +6,12 @@ use Rattle.net.proofs.take_word.Reads as reads
 use Rattle.net.proofs.take_word.Lts as lts
 use Rattle.words.proofs.word_at.Reads as word-at-reads
 
--- src/lib.rt:161:16
 word-at-requires : tie.Need-word-at-requires
 word-at-requires c κs = search needs
 
--- src/lib.rt:158:1
 returns : tie.Need-returns
 returns c = rw (c .before .if1 .taken) (c .word-at .ensures)
 
--- src/lib.rt:158:1
 returns-2 : tie.Need-returns-2
 returns-2 c = search needs
 

@@ -15,63 +15,49 @@ use Rattle.net.proofs.put_area.Reads as put-area-reads
 use Rattle.net.proofs.put_words.Reads as put-words-reads
 use Rattle.net.proofs.seal.Reads as seal-reads
 
--- src/lib.rt:112:9
 returns : tie.Need-returns
 unfolding normalOf normalLength
 returns c = search tests
 
--- src/lib.rt:115:9
 returns-2 : tie.Need-returns-2
 unfolding normalOf normalLength
 returns-2 c = search tests
 
--- src/lib.rt:117:8
 add-if3 : tie.Need-add-if3
 add-if3 c = search needs
 
--- src/lib.rt:118:9
 returns-3 : tie.Need-returns-3
 unfolding normalOf normalLength
 returns-3 c = search tests
 
--- src/lib.rt:121:9
 returns-4 : tie.Need-returns-4
 unfolding normalOf normalLength
 returns-4 c = search tests
 
--- src/lib.rt:123:5
 put-area-requires : tie.Need-put-area-requires
 put-area-requires c κs = search needs
 
--- src/lib.rt:124:17
 mul-count : tie.Need-mul-count
 mul-count c = search needs
 
--- src/lib.rt:125:20
 add-put-words : tie.Need-add-put-words
 add-put-words c = search needs
 
--- src/lib.rt:125:5
 put-words-requires : tie.Need-put-words-requires
 put-words-requires c κs = search needs
 
--- src/lib.rt:126:28
 mul-seal : tie.Need-mul-seal
 mul-seal c = search needs
 
--- src/lib.rt:126:20
 add-seal : tie.Need-add-seal
 add-seal c = search needs
 
--- src/lib.rt:126:5
 seal-requires : tie.Need-seal-requires
 seal-requires c κs = search needs
 
--- src/lib.rt:108:1
 same-length : tie.Need-same-length
 same-length c = search needs
 
--- src/lib.rt:108:1
 returns-5 : tie.Need-returns-5
 returns-5 c =
     let s = c .before .before in

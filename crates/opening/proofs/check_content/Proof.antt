@@ -11,23 +11,19 @@ use Rattle.opening.proofs.check_content.Lts as lts
 use Rattle.opening.proofs.in_order.Reads as in-order-reads
 use Rattle.opening.proofs.table_ok.Reads as table-ok-reads
 
--- src/lib.rt:92:9
 returns : tie.Need-returns
 returns c =
     let a = c .before .before .before .args in
     sym (part-content (now (a .t)) (now (a .values)) (c .if1 .taken))
 
--- src/lib.rt:96:9
 returns-2 : tie.Need-returns-2
 returns-2 c =
     let a = c .before .before .before .before .args in
-    sym (long-content (now (a .t)) (now (a .values)) (c .before .if1 .left) (c .if2 .taken))
+    sym (long-content (now (a .t)) (now (a .values)) (c .before .if1 .left) (omega arith))
 
--- src/lib.rt:98:21
 in-order-requires : tie.Need-in-order-requires
 in-order-requires c κs = omega arith
 
--- src/lib.rt:98:5
 returns-3 : tie.Need-returns-3
 returns-3 c =
     let o = c .before in

@@ -11,27 +11,22 @@ use Rattle.opening.proofs.check_record.Lts as lts
 use Rattle.opening.proofs.run_holds.Reads as run-holds-reads
 use Rattle.opening.proofs.value_holds.Reads as value-holds-reads
 
--- src/lib.rt:124:9
 returns : tie.Need-returns
 returns c =
     let a = c .before .before .before .args in
     fine-broken (a .e) (now (a .values)) (a .place) _ (number-over (a .e) (c .if1 .taken))
 
--- src/lib.rt:130:9
 returns-2 : tie.Need-returns-2
 returns-2 c =
     let a = c .before .before .before .before .before .args in
     fine-broken (a .e) (now (a .values)) (a .place) _ (spare-set (a .e) (c .if2 .taken))
 
--- src/lib.rt:137:19
 add-t6 : tie.Need-add-t6
 add-t6 c = search needs
 
--- src/lib.rt:138:19
 value-holds-requires : tie.Need-value-holds-requires
 value-holds-requires c κs = search needs
 
--- src/lib.rt:136:9
 returns-3 : tie.Need-returns-3
 returns-3 c =
     let t = c .before in
@@ -40,25 +35,20 @@ returns-3 c =
     let a = o .before .before .before .args in
     fine-run (a .e) (now (a .values)) (a .place) 1 _ (count-none (a .e) (t .if3 .taken)) (entry-limits (a .e) (o .if1 .left) (omega arith) (s .if2 .left)) (c .value-holds .ensures)
 
--- src/lib.rt:142:9
 returns-4 : tie.Need-returns-4
 returns-4 c =
     let a = c .before .before .before .before .before .before .before .before .before .args in
     fine-broken (a .e) (now (a .values)) (a .place) _ (elements-over (a .e) (c .if4 .taken))
 
--- src/lib.rt:147:13
 cast-n : tie.Need-cast-n
 cast-n c = search needs
 
--- src/lib.rt:149:15
 add-t8 : tie.Need-add-t8
 add-t8 c = search needs
 
--- src/lib.rt:150:15
 run-holds-requires : tie.Need-run-holds-requires
 run-holds-requires c κs = search needs
 
--- src/lib.rt:119:1
 returns-5 : tie.Need-returns-5
 returns-5 c =
     let f = c .before .before in

@@ -15,11 +15,9 @@ doubles : (c : tie.After-struct-known2) →
     (a .e .minimum < 4294967296) × (a .v < 4294967296) × (a .e .maximum < 4294967296)
 doubles c = (omega (arith, c .struct-known2 .given), omega arith, omega (arith, c .before .struct-known .given))
 
--- src/lib.rt:65:9
 sign-of-requires : tie.Need-sign-of-requires
 sign-of-requires c κs = search needs
 
--- src/lib.rt:69:9
 returns : tie.Need-returns
 returns c =
     let k = c .before in
@@ -28,7 +26,6 @@ returns c =
     let a = g .before .args in
     rank-under (a .e) (a .v) _ (g .sign-of .ensures) (d .0) (d .1) (d .2) (c .if1 .taken)
 
--- src/lib.rt:72:9
 returns-2 : tie.Need-returns-2
 returns-2 c =
     let k = c .before .before in
@@ -37,7 +34,6 @@ returns-2 c =
     let a = g .before .args in
     rank-over (a .e) (a .v) _ (g .sign-of .ensures) (d .0) (d .1) (d .2) (c .if2 .taken)
 
--- src/lib.rt:62:1
 returns-3 : tie.Need-returns-3
 returns-3 c =
     let o = c .before .before in
@@ -46,7 +42,6 @@ returns-3 c =
     let a = g .before .args in
     rank-double (a .e) (a .v) _ (g .sign-of .ensures) (d .0) (d .1) (d .2) (o .if1 .left) (c .before .if2 .left) (c .if3 .taken)
 
--- src/lib.rt:62:1
 returns-4 : tie.Need-returns-4
 returns-4 c =
     let o = c .before .before in

@@ -50,28 +50,23 @@ ended c =
     let a = l .before .before .before .args in
     l .loop .inv .2 ∙ rw (entries-end (now (a .t)) (a .n) (l .loop .k) (c .loop-test .left))
 
--- src/lib.rt:164:5
 loop-holds : tie.Need-loop-holds Inv-loop μ-loop
 loop-holds c =
     let a = c .before .before .args in
     (omega arith, omega arith, rw sub-zero (good-all (now (a .t)) (a .n) (omega arith) (omega arith) (now (a .values))))
 
--- src/lib.rt:165:13
 read-record-requires : tie.Need-read-record-requires Inv-loop μ-loop
 read-record-requires c κs = omega arith
 
--- src/lib.rt:167:13
 returns : tie.Need-returns Inv-loop μ-loop
 returns c =
     let d = c .before .before in
     let vs = now (d .before .before .before .before .before .args .values) in
     sym (left d ∙ good-low _ _ _ _ vs (c .if1 .taken))
 
--- src/lib.rt:169:13
 check-record-requires : tie.Need-check-record-requires Inv-loop μ-loop
 check-record-requires c κs = omega arith
 
--- src/lib.rt:171:13
 returns-2 : tie.Need-returns-2 Inv-loop μ-loop
 returns-2 c =
     let r = c .before .before in
@@ -79,7 +74,6 @@ returns-2 c =
     let vs = now (d .before .before .before .before .before .args .values) in
     sym (left d ∙ good-broken _ _ _ _ vs _ (r .before .if1 .left) (r .check-record .ensures .0) (not-true _ (c .if2 .taken)))
 
--- src/lib.rt:173:17
 add-least : tie.Need-add-least Inv-loop μ-loop
 add-least c =
     let r = c .before .before .before in
@@ -87,15 +81,12 @@ add-least c =
     let f = ruled _ (fine-entry _ vs _ _ (r .check-record .ensures .0) (not-false _ (c .before .if2 .left))) in
     omega arith
 
--- src/lib.rt:175:9
 add-k : tie.Need-add-k Inv-loop μ-loop
 add-k c = omega arith
 
--- src/lib.rt:164:5
 loop-less : tie.Need-loop-less Inv-loop μ-loop
 loop-less c = omega arith
 
--- src/lib.rt:164:5
 loop-again : tie.Need-loop-again Inv-loop μ-loop
 loop-again c =
     let r = c .before .before .before in
@@ -107,13 +98,11 @@ loop-again c =
     let e = ap countOf (d .read-record .ensures) in
     (omega arith, omega (arith, count-at-le (now (a .t)) (l .loop .k)), left d ∙ good-on _ _ _ _ (now (a .values)) _ (r .before .if1 .left) (r .check-record .ensures .0) f ∙ rw (← next))
 
--- src/lib.rt:178:9
 returns-3 : tie.Need-returns-3 Inv-loop μ-loop
 returns-3 c =
     let vs = now (c .before .before .before .before .before .args .values) in
-    sym (ended (c .before) ∙ good-over _ _ vs (c .if3 .taken))
+    sym (ended (c .before) ∙ good-over _ _ vs (omega arith))
 
--- src/lib.rt:157:1
 returns-4 : tie.Need-returns-4 Inv-loop μ-loop
 returns-4 c =
     let vs = now (c .before .before .before .before .before .args .values) in

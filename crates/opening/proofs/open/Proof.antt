@@ -10,39 +10,31 @@ use Rattle.opening.proofs.open.Lts as lts
 use Rattle.opening.proofs.check_content.Reads as check-content-reads
 use Rattle.setup.proofs.setup_ok.Reads as setup-ok-reads
 
--- src/lib.rt:105:9
 setup-ok-requires : tie.Need-setup-ok-requires
 setup-ok-requires c κs = search needs
 
--- src/lib.rt:106:9
 returns : tie.Need-returns
 returns c = sym (open-setup _ _ _ _ (sym (c .before .setup-ok .ensures) ∙ not-true _ (c .if1 .taken)))
 
--- src/lib.rt:108:9
 check-content-requires : tie.Need-check-content-requires
 check-content-requires c κs = search needs
 
--- src/lib.rt:110:26
 enum-known-content : tie.Need-enum-known-content
 enum-known-content c = search needs
 
--- src/lib.rt:112:16
 enum-told : tie.Need-enum-told
 enum-told c = search needs
 
--- src/lib.rt:102:1
 returns-2 : tie.Need-returns-2
 returns-2 c =
     let k = c .before .before .before in
     sym (open-content _ _ _ _ _ (sym (k .before .before .setup-ok .ensures) ∙ not-false _ (k .before .if1 .left)) (sym (k .check-content .ensures) ∙ c .before .content .given .1))
 
--- src/lib.rt:102:1
 returns-3 : tie.Need-returns-3
 returns-3 c =
     let k = c .before .before .before in
     sym (open-buffer _ _ _ _ (sym (k .before .before .setup-ok .ensures) ∙ not-false _ (k .before .if1 .left)) (sym (k .check-content .ensures) ∙ c .before .enum-told .given .1) (c .if2 .taken))
 
--- src/lib.rt:102:1
 returns-4 : tie.Need-returns-4
 returns-4 c =
     let k = c .before .before .before in

@@ -24,25 +24,20 @@ Inv-loop e values n place all₀ i₀ all i =
 abbrev μ-loop : tie.MeasureT-loop
 μ-loop e values n place all₀ i₀ all i = n - i
 
--- src/lib.rt:101:23
 add-if1 : tie.Need-add-if1 Inv-loop μ-loop
 add-if1 c = omega arith
 
--- src/lib.rt:102:9
 returns : tie.Need-returns Inv-loop μ-loop
 returns c =
     let a = c .before .before .args in
     run-short (limitsOk (a .e)) _ (runOk (a .e) (now (a .values)) (a .n) (a .place)) (lt-leb (a .place + a .n) (length (now (a .values))) (c .if1 .taken))
 
--- src/lib.rt:106:5
 loop-holds : tie.Need-loop-holds Inv-loop μ-loop
 loop-holds c = (omega arith, rw (sub-zero, add-zero), λ h. absurd (omega arith))
 
--- src/lib.rt:107:46
 add-holds : tie.Need-add-holds Inv-loop μ-loop
 add-holds c = omega arith
 
--- src/lib.rt:107:39
 mul-holds : tie.Need-mul-holds Inv-loop μ-loop
 mul-holds c =
     let l = c .before in
@@ -50,27 +45,21 @@ mul-holds c =
     let h : a .place + l .loop .i < length (now (a .values)) = omega arith in
     search needs
 
--- src/lib.rt:107:39
 shared-slice-read-holds : tie.Need-shared-slice-read-holds Inv-loop μ-loop
 shared-slice-read-holds c = omega arith
 
--- src/lib.rt:107:30
 holds-requires : tie.Need-holds-requires Inv-loop μ-loop
 holds-requires c κs = search needs
 
--- src/lib.rt:107:9
 hold-both-requires : tie.Need-hold-both-requires Inv-loop μ-loop
 hold-both-requires c κs = search needs
 
--- src/lib.rt:108:9
 add-i : tie.Need-add-i Inv-loop μ-loop
 add-i c = omega arith
 
--- src/lib.rt:106:5
 loop-less : tie.Need-loop-less Inv-loop μ-loop
 loop-less c = omega arith
 
--- src/lib.rt:106:5
 loop-again : tie.Need-loop-again Inv-loop μ-loop
 loop-again c =
     let w = c .before in
@@ -82,7 +71,6 @@ loop-again c =
       λ h. shown (l .loop .all) (limitsOk (a .e)) _ _ _ (w .holds .ensures) (c .hold-both .ensures),
     )
 
--- src/lib.rt:97:1
 returns-2 : tie.Need-returns-2 Inv-loop μ-loop
 returns-2 c =
     let l = c .before in

@@ -47,54 +47,43 @@ counted c =
     let e = c .count-places .ensures ∙ ap countOf (d .read-record .ensures) in
     omega (arith, count-at-le (now (l .before .before .args .t)) (l .loop .k))
 
--- src/lib.rt:191:5
 loop-holds : tie.Need-loop-holds Inv-loop μ-loop
 loop-holds c =
     let a = c .before .args in
     (omega arith, omega arith, rw sub-zero (rule-all (now (a .t)) (a .n) (omega arith) (omega arith)))
 
--- src/lib.rt:192:13
 read-record-requires : tie.Need-read-record-requires Inv-loop μ-loop
 read-record-requires c κs = omega arith
 
--- src/lib.rt:194:13
 returns : tie.Need-returns Inv-loop μ-loop
 returns c = sym (left (c .before .before) ∙ rule-low _ _ _ _ (c .if1 .taken))
 
--- src/lib.rt:196:13
 entry-ok-requires : tie.Need-entry-ok-requires Inv-loop μ-loop
 entry-ok-requires c κs = search needs
 
--- src/lib.rt:197:13
 returns-2 : tie.Need-returns-2 Inv-loop μ-loop
 returns-2 c =
     let o = c .before in
     sym (left (o .before .before .before) ∙ rule-broken _ _ _ _ (sym (o .entry-ok .ensures) ∙ not-true _ (c .if2 .taken)))
 
--- src/lib.rt:199:17
 add-least : tie.Need-add-least Inv-loop μ-loop
 add-least c =
     let o = c .before .before in
     let f = ruled _ (sym (o .entry-ok .ensures) ∙ not-false _ (c .before .if2 .left)) in
     omega arith
 
--- src/lib.rt:200:18
 count-places-requires : tie.Need-count-places-requires Inv-loop μ-loop
 count-places-requires c κs = search needs
 
--- src/lib.rt:200:9
 add-place : tie.Need-add-place Inv-loop μ-loop
 add-place c = let h = counted c in omega arith
 
--- src/lib.rt:201:9
 add-k : tie.Need-add-k Inv-loop μ-loop
 add-k c = omega arith
 
--- src/lib.rt:191:5
 loop-less : tie.Need-loop-less Inv-loop μ-loop
 loop-less c = omega arith
 
--- src/lib.rt:191:5
 loop-again : tie.Need-loop-again Inv-loop μ-loop
 loop-again c =
     let l = c .before .before in
@@ -104,7 +93,6 @@ loop-again c =
     let ok = sym (o .entry-ok .ensures) ∙ not-false _ (l .if2 .left) in
     (omega arith, omega arith, left d ∙ rule-on _ _ _ _ (o .before .if1 .left) ok ∙ rw (← (c .count-places .ensures)))
 
--- src/lib.rt:184:1
 returns-3 : tie.Need-returns-3 Inv-loop μ-loop
 returns-3 c =
     let l = c .before in

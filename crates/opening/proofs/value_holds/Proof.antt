@@ -13,25 +13,20 @@ use Rattle.opening.proofs.value_holds.Reads as reads
 use Rattle.opening.proofs.value_holds.Lts as lts
 use Rattle.opening.proofs.holds.Reads as holds-reads
 
--- src/lib.rt:90:9
 returns : tie.Need-returns
 returns c =
     let a = c .before .before .args in
     run-short (limitsOk (a .e)) _ (runOk (a .e) (now (a .values)) 1 (a .place)) (lt-leb (a .place + 1) (length (now (a .values))) (omega arith))
 
--- src/lib.rt:92:14
 mul-holds : tie.Need-mul-holds
 mul-holds c = search needs
 
--- src/lib.rt:92:14
 shared-slice-read-holds : tie.Need-shared-slice-read-holds
 shared-slice-read-holds c = search needs
 
--- src/lib.rt:92:5
 holds-requires : tie.Need-holds-requires
 holds-requires c κs = search needs
 
--- src/lib.rt:85:1
 returns-2 : tie.Need-returns-2
 returns-2 c =
     let l = c .before .before in

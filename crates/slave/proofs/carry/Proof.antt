@@ -5,27 +5,21 @@ use Rattle.slave.proofs.carry.Tie as tie
 use Rattle.slave.proofs.carry.Reads as reads
 use Rattle.slave.proofs.carry.Lts as lts
 
--- src/lib.rt:69:26
 enum-told : tie.Need-enum-told
 enum-told c = search needs
 
--- src/lib.rt:70:24
 enum-told-2 : tie.Need-enum-told-2
 enum-told-2 c = search needs
 
--- src/lib.rt:71:26
 enum-told-3 : tie.Need-enum-told-3
 enum-told-3 c = search needs
 
--- src/lib.rt:65:1
 returns : tie.Need-returns
 returns c = search needs
 
--- src/lib.rt:65:1
 returns-2 : tie.Need-returns-2
 returns-2 c = rw (c .enum-told2 .given .1)
 
--- src/lib.rt:65:1
 returns-3 : tie.Need-returns-3
 returns-3 c = search needs
 

@@ -12,47 +12,36 @@ use Rattle.entry.proofs.count_places.Reads as count-places-reads
 use Rattle.entry.proofs.entry_of.Reads as entry-of-reads
 use Rattle.words.proofs.join.Reads as join-reads
 
--- src/lib.rt:206:22
 mul-join : tie.Need-mul-join
 mul-join c = search needs
 
--- src/lib.rt:206:22
 add-join : tie.Need-add-join
 add-join c = search needs
 
--- src/lib.rt:206:20
 shared-slice-read-join : tie.Need-shared-slice-read-join
 shared-slice-read-join c = search needs
 
--- src/lib.rt:206:37
 mul-join-2 : tie.Need-mul-join-2
 mul-join-2 c = search needs
 
--- src/lib.rt:206:37
 add-join-2 : tie.Need-add-join-2
 add-join-2 c = search needs
 
--- src/lib.rt:206:35
 shared-slice-read-join-2 : tie.Need-shared-slice-read-join-2
 shared-slice-read-join-2 c = search needs
 
--- src/lib.rt:206:9
 join-requires : tie.Need-join-requires
 join-requires c κs = search needs
 
--- src/lib.rt:207:41
 cast-entry-of : tie.Need-cast-entry-of
 cast-entry-of c = search needs
 
--- src/lib.rt:207:25
 entry-of-requires : tie.Need-entry-of-requires
 entry-of-requires c κs = search needs
 
--- src/lib.rt:207:5
 count-places-requires : tie.Need-count-places-requires
 count-places-requires c κs = search needs
 
--- src/lib.rt:202:1
 returns : tie.Need-returns
 returns c =
     let e = c .before in

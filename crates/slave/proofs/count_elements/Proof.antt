@@ -6,11 +6,9 @@ use Rattle.slave.proofs.count_elements.Tie as tie
 use Rattle.slave.proofs.count_elements.Reads as reads
 use Rattle.slave.proofs.count_elements.Lts as lts
 
--- src/lib.rt:92:1
 returns : tie.Need-returns
 returns c = rw (eq-eqb _ _ (c .if1 .taken))
 
--- src/lib.rt:92:1
 returns-2 : tie.Need-returns-2
 returns-2 c = rw (ne-eqb _ _ (c .if1 .left))
 

@@ -16,23 +16,18 @@ use Rattle.slave.proofs.serve_broadcast.Reads as serve-broadcast-reads
 use Rattle.slave.proofs.serve_mirror.Reads as serve-mirror-reads
 use Rattle.slave.proofs.serve_normal.Reads as serve-normal-reads
 
--- src/lib.rt:342:11
 decode-requires : tie.Need-decode-requires
 decode-requires c κs = search needs
 
--- src/lib.rt:343:26
 enum-known-fault : tie.Need-enum-known-fault
 enum-known-fault c = search needs
 
--- src/lib.rt:343:36
 refuse-requires : tie.Need-refuse-requires
 refuse-requires c κs = search needs
 
--- src/lib.rt:344:27
 enum-known-node : tie.Need-enum-known-node
 enum-known-node c = search needs
 
--- src/lib.rt:344:37
 serve-mirror-requires : tie.Need-serve-mirror-requires
 serve-mirror-requires c κs =
     let d = c .before .before .before .before in
@@ -42,11 +37,9 @@ serve-mirror-requires c κs =
     let o = opened (a .setup) (a .table .now) (a .values .now) (length (a .reply .now)) (d .before .before .before .before .before .pre) in
     omega (arith, f .counted .count, f .counted .high, o .buffer)
 
--- src/lib.rt:345:73
 enum-told : tie.Need-enum-told
 enum-told c = search needs
 
--- src/lib.rt:345:73
 sub-serve-broadcast : tie.Need-sub-serve-broadcast
 sub-serve-broadcast c =
     let d = c .before .before in
@@ -54,15 +47,12 @@ sub-serve-broadcast c =
     let e = sym (d .decode .ensures) ∙ c .enum-told .given .1 in
     omega (arith, telegram-framed (a .received .now) _ e refl .counted .long)
 
--- src/lib.rt:345:31
 serve-broadcast-requires : tie.Need-serve-broadcast-requires
 serve-broadcast-requires c κs = search needs
 
--- src/lib.rt:347:13
 enum-known-node-2 : tie.Need-enum-known-node-2
 enum-known-node-2 c = search needs
 
--- src/lib.rt:351:21
 sub-n : tie.Need-sub-n
 sub-n c =
     let d = c .before .before .before in
@@ -71,11 +61,9 @@ sub-n c =
     let b = normal-bounds (a .received .now) _ _ _ e in
     omega (arith, b .0, b .1, telegram-framed (a .received .now) _ e refl .counted .long)
 
--- src/lib.rt:352:13
 serve-normal-requires : tie.Need-serve-normal-requires
 serve-normal-requires c κs = search needs
 
--- src/lib.rt:330:1
 returns : tie.Need-returns
 returns c =
     let d = c .before .before .before .before in
@@ -83,11 +71,9 @@ returns c =
     let e = sym (d .decode .ensures) ∙ c .before .before .fault .given .1 in
     rw (executed (a .setup) (a .table .now) (a .values .now) (a .control) (a .status) (a .received .now) (a .reply .now) _ e) (record { answers = c .refuse .ensures; values-are = refl; reply-is = refl })
 
--- src/lib.rt:330:1
 same-length : tie.Need-same-length
 same-length c = search needs
 
--- src/lib.rt:330:1
 returns-2 : tie.Need-returns-2
 returns-2 c =
     let d = c .before .before .before .before .before .before .before in
@@ -96,7 +82,6 @@ returns-2 c =
     let m = c .before .before in
     rw (executed (a .setup) (a .table .now) (a .values .now) (a .control) (a .status) (a .received .now) (a .reply .now) _ e) (record { answers = m .serve-mirror .ensures .0; values-are = refl; reply-is = m .serve-mirror .ensures .1 })
 
--- src/lib.rt:330:1
 returns-3 : tie.Need-returns-3
 returns-3 c =
     let d = c .before .before .before in
@@ -104,15 +89,12 @@ returns-3 c =
     let e = sym (d .decode .ensures) ∙ c .before .enum-told .given .1 in
     rw (executed (a .setup) (a .table .now) (a .values .now) (a .control) (a .status) (a .received .now) (a .reply .now) _ e) (record { answers = c .serve-broadcast .ensures; values-are = refl; reply-is = refl })
 
--- src/lib.rt:330:1
 same-length-2 : tie.Need-same-length-2
 same-length-2 c = search needs
 
--- src/lib.rt:330:1
 same-length-3 : tie.Need-same-length-3
 same-length-3 c = search needs
 
--- src/lib.rt:330:1
 returns-4 : tie.Need-returns-4
 returns-4 c =
     let d = c .before .before .before .before .before .before .before .before .before .before in

@@ -9,17 +9,14 @@ use Rattle.slave.proofs.first_place.Reads as reads
 use Rattle.slave.proofs.first_place.Lts as lts
 use Rattle.slave.proofs.sum_places.Reads as sum-places-reads
 
--- src/lib.rt:229:9
 returns : tie.Need-returns
 returns c =
     let a = c .before .before in
     places-single (now (a .args .t)) (a .args .k) (a .pre .0) (omega arith)
 
--- src/lib.rt:231:5
 sum-places-requires : tie.Need-sum-places-requires
 sum-places-requires c κs = search needs
 
--- src/lib.rt:224:1
 returns-2 : tie.Need-returns-2
 returns-2 c = search needs
 

@@ -36,19 +36,15 @@ busy c = sym (c .before .is-idle .ensures) ∙ c .if1 .left
 found : (c : tie.After-find) → (let a = c .before .before .before .before .before .before .before .before .before .before .args in findIn (a .table .now) (fullNumber (a .area .pke) (a .area .ind)) ≡ c .find .result)
 found c = sym (c .find .ensures ∙ rw (c .before .full-number .ensures))
 
--- src/lib.rt:174:14
 cast-id : tie.Need-cast-id
 cast-id c = search needs
 
--- src/lib.rt:175:9
 task-of-requires : tie.Need-task-of-requires
 task-of-requires c κs = search needs
 
--- src/lib.rt:177:8
 is-idle-requires : tie.Need-is-idle-requires
 is-idle-requires c κs = search needs
 
--- src/lib.rt:178:9
 returns : tie.Need-returns
 returns c =
     let d = c .before .before in
@@ -56,11 +52,9 @@ returns c =
     rw (performed d ∙ task-idle (a .n) (d .task-of .result) (a .table .now) (a .values .now) (a .area) (sym (c .before .is-idle .ensures) ∙ c .if1 .taken))
     (record { area-is = refl; values-are = refl })
 
--- src/lib.rt:185:9
 reply-area-requires : tie.Need-reply-area-requires
 reply-area-requires c κs = search needs
 
--- src/lib.rt:185:9
 returns-2 : tie.Need-returns-2
 returns-2 c =
     let i = c .before .before .before in
@@ -69,31 +63,24 @@ returns-2 c =
     rw (performed d ∙ task-unnamed (a .n) (d .task-of .result) (a .table .now) (a .values .now) (a .area) (busy i) (c .before .if2 .taken))
     (record { area-is = c .reply-area .ensures; values-are = refl })
 
--- src/lib.rt:187:9
 full-number-requires : tie.Need-full-number-requires
 full-number-requires c κs = search needs
 
--- src/lib.rt:188:11
 find-requires : tie.Need-find-requires
 find-requires c κs = search needs
 
--- src/lib.rt:189:27
 enum-told : tie.Need-enum-told
 enum-told c = search needs
 
--- src/lib.rt:189:27
 reply-area-requires-2 : tie.Need-reply-area-requires-2
 reply-area-requires-2 c κs = search needs
 
--- src/lib.rt:268:19
 enum-known-k : tie.Need-enum-known-k
 enum-known-k c = search needs
 
--- src/lib.rt:269:17
 read-record-requires : tie.Need-read-record-requires
 read-record-requires c κs = let f = c .before .before .before in found-whole _ _ _ (found f ∙ c .before .k .given .1)
 
--- src/lib.rt:270:17
 first-place-requires : tie.Need-first-place-requires
 first-place-requires c κs =
     let f = c .before .before .before .before in
@@ -101,7 +88,6 @@ first-place-requires c κs =
     let h = found-whole (a .args .table .now) _ _ (found f ∙ c .before .before .k .given .1) in
     (omega arith, omega (arith, a .pre .0), a .pre .1)
 
--- src/lib.rt:271:13
 perform-on-requires : tie.Need-perform-on-requires
 perform-on-requires c κs =
     let f = c .before .before .before .before .before .before in
@@ -111,7 +97,6 @@ perform-on-requires c κs =
       rw (c .before .before .read-record .ensures, c .before .first-place .ensures) (omega (arith, found-fits (a .args .table .now) _ _ e, a .pre .1)),
     )
 
--- src/lib.rt:170:1
 returns-3 : tie.Need-returns-3
 returns-3 c =
     let f = c .before .before .before in
@@ -120,11 +105,9 @@ returns-3 c =
     rw (performed d ∙ task-found (a .n) (d .task-of .result) (a .table .now) (a .values .now) (a .area) Nothing (busy (f .before .before .before .before)) (f .before .before .if2 .left) (found f ∙ c .before .enum-told .given .1))
     (record { area-is = c .reply-area2 .ensures; values-are = refl })
 
--- src/lib.rt:170:1
 same-length : tie.Need-same-length
 same-length c = search needs
 
--- src/lib.rt:170:1
 returns-4 : tie.Need-returns-4
 returns-4 c =
     let q = c .before .before in

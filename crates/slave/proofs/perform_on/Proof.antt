@@ -18,55 +18,42 @@ use Rattle.task.proofs.pick_element.Reads as pick-element-reads
 verdict : (c : tie.After-judge) → (let a = c .before .before .before .before .before .args in c .judge .result ≡ verdictFor (a .n) (a .task) (a .area) (a .e))
 verdict c = c .judge .ensures ∙ rw (c .before .is-inside .ensures, c .before .before .carry .ensures) (verdict-inside _ _ _ _ _ _ _ _ _)
 
--- src/lib.rt:138:17
 cast-index : tie.Need-cast-index
 cast-index c = search needs
 
--- src/lib.rt:139:9
 carry-requires : tie.Need-carry-requires
 carry-requires c κs = search needs
 
--- src/lib.rt:140:9
 is-inside-requires : tie.Need-is-inside-requires
 is-inside-requires c κs = search needs
 
--- src/lib.rt:141:9
 judge-requires : tie.Need-judge-requires
 judge-requires c κs = search needs
 
--- src/lib.rt:153:25
 enum-known-verdict : tie.Need-enum-known-verdict
 enum-known-verdict c = search needs
 
--- src/lib.rt:153:55
 number-error-requires : tie.Need-number-error-requires
 number-error-requires c κs = search needs
 
--- src/lib.rt:153:55
 cast-reply-area : tie.Need-cast-reply-area
 cast-reply-area c = search needs
 
--- src/lib.rt:153:35
 reply-area-requires : tie.Need-reply-area-requires
 reply-area-requires c κs = search needs
 
--- src/lib.rt:155:17
 enum-told : tie.Need-enum-told
 enum-told c = search needs
 
--- src/lib.rt:155:17
 pick-element-requires : tie.Need-pick-element-requires
 pick-element-requires c κs = search needs
 
--- src/lib.rt:156:33
 cast-place : tie.Need-cast-place
 cast-place c = search needs
 
--- src/lib.rt:156:25
 add-place : tie.Need-add-place
 add-place c = search needs
 
--- src/lib.rt:157:13
 run-act-requires : tie.Need-run-act-requires
 run-act-requires c κs =
     let j = c .before .before .before .before in
@@ -75,7 +62,6 @@ run-act-requires c κs =
     let g = sym (verdict j) ∙ c .before .before .enum-told .given .1 in
     (a .pre .0, rw (c .before .pick-element .ensures) (granted-place (a .args .n) (a .args .task) (a .args .area) (a .args .e) (a .args .values .now) (a .args .first) g (a .pre .1)))
 
--- src/lib.rt:132:1
 returns : tie.Need-returns
 returns c =
     let j = c .before .before .before .before .before in
@@ -83,11 +69,9 @@ returns c =
     let d = task-denied (a .n) (a .task) (a .area) (a .e) (a .values .now) (a .first) _ (sym (verdict j) ∙ c .before .before .before .verdict .given .1) in
     rw d (record { area-is = c .reply-area .ensures ∙ rw (c .before .number-error .ensures); values-are = refl })
 
--- src/lib.rt:132:1
 same-length : tie.Need-same-length
 same-length c = search needs
 
--- src/lib.rt:132:1
 returns-2 : tie.Need-returns-2
 returns-2 c =
     let r = c .before .before in

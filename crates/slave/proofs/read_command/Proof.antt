@@ -9,28 +9,22 @@ use Rattle.slave.proofs.read_command.Reads as reads
 use Rattle.slave.proofs.read_command.Lts as lts
 use Rattle.words.proofs.word_at.Reads as word-at-reads
 
--- src/lib.rt:234:9
 word-at-requires : tie.Need-word-at-requires
 word-at-requires c κs = search needs
 
--- src/lib.rt:235:9
 word-at-requires-2 : tie.Need-word-at-requires-2
 word-at-requires-2 c κs = search needs
 
--- src/lib.rt:236:9
 word-at-requires-3 : tie.Need-word-at-requires-3
 word-at-requires-3 c κs = search needs
 
--- src/lib.rt:237:30
 word-at-requires-4 : tie.Need-word-at-requires-4
 word-at-requires-4 c κs = search needs
 
--- src/lib.rt:231:1
 returns : tie.Need-returns
 unfolding commandAt
 returns c = rw (c .before .before .before .before .word-at .ensures, c .before .before .before .word-at2 .ensures, c .before .before .word-at3 .ensures, c .word-at4 .ensures, c .before .if1 .taken)
 
--- src/lib.rt:231:1
 returns-2 : tie.Need-returns-2
 unfolding commandAt
 returns-2 c = rw (c .before .before .before .word-at .ensures, c .before .before .word-at2 .ensures, c .before .word-at3 .ensures, ne-eqb _ _ (c .if1 .left))

@@ -6,15 +6,12 @@ use Rattle.slave.proofs.read_id.Tie as tie
 use Rattle.slave.proofs.read_id.Reads as reads
 use Rattle.slave.proofs.read_id.Lts as lts
 
--- src/lib.rt:88:17
 add-result : tie.Need-add-result
 add-result c = search needs
 
--- src/lib.rt:84:1
 returns : tie.Need-returns
 returns c = rw (c .if1 .taken)
 
--- src/lib.rt:84:1
 returns-2 : tie.Need-returns-2
 returns-2 c = rw (c .if1 .left, add-zero)
 

@@ -11,143 +11,108 @@ use Rattle.entry.proofs.entry_of.Reads as entry-of-reads
 use Rattle.words.proofs.join.Reads as join-reads
 use Rattle.words.proofs.join_double.Reads as join-double-reads
 
--- src/lib.rt:194:14
 mul-at : tie.Need-mul-at
 mul-at c = search needs
 
--- src/lib.rt:195:33
 shared-slice-read-join : tie.Need-shared-slice-read-join
 shared-slice-read-join c = search needs
 
--- src/lib.rt:195:42
 add-join : tie.Need-add-join
 add-join c = search needs
 
--- src/lib.rt:195:40
 shared-slice-read-join-2 : tie.Need-shared-slice-read-join-2
 shared-slice-read-join-2 c = search needs
 
--- src/lib.rt:195:28
 join-requires : tie.Need-join-requires
 join-requires c κs = search needs
 
--- src/lib.rt:195:59
 add-join-2 : tie.Need-add-join-2
 add-join-2 c = search needs
 
--- src/lib.rt:195:57
 shared-slice-read-join-3 : tie.Need-shared-slice-read-join-3
 shared-slice-read-join-3 c = search needs
 
--- src/lib.rt:195:70
 add-join-3 : tie.Need-add-join-3
 add-join-3 c = search needs
 
--- src/lib.rt:195:68
 shared-slice-read-join-4 : tie.Need-shared-slice-read-join-4
 shared-slice-read-join-4 c = search needs
 
--- src/lib.rt:195:52
 join-requires-2 : tie.Need-join-requires-2
 join-requires-2 c κs = search needs
 
--- src/lib.rt:195:9
 join-double-requires : tie.Need-join-double-requires
 join-double-requires c κs = search needs
 
--- src/lib.rt:196:38
 add-join-4 : tie.Need-add-join-4
 add-join-4 c = search needs
 
--- src/lib.rt:196:36
 shared-slice-read-join-5 : tie.Need-shared-slice-read-join-5
 shared-slice-read-join-5 c = search needs
 
--- src/lib.rt:196:49
 add-join-5 : tie.Need-add-join-5
 add-join-5 c = search needs
 
--- src/lib.rt:196:47
 shared-slice-read-join-6 : tie.Need-shared-slice-read-join-6
 shared-slice-read-join-6 c = search needs
 
--- src/lib.rt:196:31
 join-requires-3 : tie.Need-join-requires-3
 join-requires-3 c κs = search needs
 
--- src/lib.rt:196:66
 add-join-6 : tie.Need-add-join-6
 add-join-6 c = search needs
 
--- src/lib.rt:196:64
 shared-slice-read-join-7 : tie.Need-shared-slice-read-join-7
 shared-slice-read-join-7 c = search needs
 
--- src/lib.rt:196:77
 add-join-7 : tie.Need-add-join-7
 add-join-7 c = search needs
 
--- src/lib.rt:196:75
 shared-slice-read-join-8 : tie.Need-shared-slice-read-join-8
 shared-slice-read-join-8 c = search needs
 
--- src/lib.rt:196:59
 join-requires-4 : tie.Need-join-requires-4
 join-requires-4 c κs = search needs
 
--- src/lib.rt:196:9
 join-double-requires-2 : tie.Need-join-double-requires-2
 join-double-requires-2 c κs = search needs
 
--- src/lib.rt:197:38
 add-join-8 : tie.Need-add-join-8
 add-join-8 c = search needs
 
--- src/lib.rt:197:36
 shared-slice-read-join-9 : tie.Need-shared-slice-read-join-9
 shared-slice-read-join-9 c = search needs
 
--- src/lib.rt:197:49
 add-join-9 : tie.Need-add-join-9
 add-join-9 c = search needs
 
--- src/lib.rt:197:47
 shared-slice-read-join-10 : tie.Need-shared-slice-read-join-10
 shared-slice-read-join-10 c = search needs
 
--- src/lib.rt:197:31
 join-requires-5 : tie.Need-join-requires-5
 join-requires-5 c κs = search needs
 
--- src/lib.rt:197:66
 add-join-10 : tie.Need-add-join-10
 add-join-10 c = search needs
 
--- src/lib.rt:197:64
 shared-slice-read-join-11 : tie.Need-shared-slice-read-join-11
 shared-slice-read-join-11 c = search needs
 
--- src/lib.rt:197:78
 add-join-11 : tie.Need-add-join-11
 add-join-11 c = search needs
 
--- src/lib.rt:197:76
 shared-slice-read-join-12 : tie.Need-shared-slice-read-join-12
 shared-slice-read-join-12 c = search needs
 
--- src/lib.rt:197:59
 join-requires-6 : tie.Need-join-requires-6
 join-requires-6 c κs = search needs
 
--- src/lib.rt:197:9
 join-double-requires-3 : tie.Need-join-double-requires-3
 join-double-requires-3 c κs = search needs
 
--- src/lib.rt:198:5
 entry-of-requires : tie.Need-entry-of-requires
 entry-of-requires c κs = search needs
 
--- src/lib.rt:190:1
 returns : tie.Need-returns
 returns c =
     let d = c .before in

@@ -11,85 +11,65 @@ use Rattle.slave.proofs.read_id.Reads as read-id-reads
 use Rattle.slave.proofs.reply_area.Reads as reply-area-reads
 use Rattle.slave.proofs.store.Reads as store-reads
 
--- src/lib.rt:113:25
 enum-told : tie.Need-enum-told
 enum-told c = search needs
 
--- src/lib.rt:119:25
 enum-told-2 : tie.Need-enum-told-2
 enum-told-2 c = search needs
 
--- src/lib.rt:119:25
 mul-value : tie.Need-mul-value
 mul-value c = search needs
 
--- src/lib.rt:119:25
 slice-read-value : tie.Need-slice-read-value
 slice-read-value c = search needs
 
--- src/lib.rt:120:30
 read-id-requires : tie.Need-read-id-requires
 read-id-requires c κs = search needs
 
--- src/lib.rt:120:13
 reply-area-requires : tie.Need-reply-area-requires
 reply-area-requires c κs =
     let a = c .before .before .before .before .before in
     rw (c .read-id .ensures) (read-reply-le (a .args .reply) (a .args .double) (a .pre .0))
 
--- src/lib.rt:123:19
 enum-told-3 : tie.Need-enum-told-3
 enum-told-3 c = search needs
 
--- src/lib.rt:123:13
 store-requires : tie.Need-store-requires
 store-requires c κs = search needs
 
--- src/lib.rt:124:13
 reply-area-requires-2 : tie.Need-reply-area-requires-2
 reply-area-requires-2 c κs = search needs
 
--- src/lib.rt:126:47
 enum-told-4 : tie.Need-enum-told-4
 enum-told-4 c = search needs
 
--- src/lib.rt:126:47
 count-elements-requires : tie.Need-count-elements-requires
 count-elements-requires c κs = search needs
 
--- src/lib.rt:126:23
 reply-area-requires-3 : tie.Need-reply-area-requires-3
 reply-area-requires-3 c κs = search needs
 
--- src/lib.rt:127:24
 enum-told-5 : tie.Need-enum-told-5
 enum-told-5 c = search needs
 
--- src/lib.rt:127:24
 reply-area-requires-4 : tie.Need-reply-area-requires-4
 reply-area-requires-4 c κs = search needs
 
--- src/lib.rt:99:1
 returns : tie.Need-returns
 returns c = rw (c .enum-told .given .1) (record { area-is = refl; values-are = refl })
 
--- src/lib.rt:99:1
 returns-2 : tie.Need-returns-2
 returns-2 c = rw (c .before .before .before .enum-told2 .given .1) (record { area-is = c .reply-area .ensures ∙ rw (c .before .read-id .ensures); values-are = refl })
 
--- src/lib.rt:99:1
 same-length : tie.Need-same-length
 same-length c = search needs
 
--- src/lib.rt:99:1
 returns-3 : tie.Need-returns-3
 returns-3 c = rw (c .before .before .before .before .before .enum-told3 .given .1) (record { area-is = c .reply-area2 .ensures; values-are = c .before .before .before .store .ensures })
 
--- src/lib.rt:99:1
 returns-4 : tie.Need-returns-4
 returns-4 c = rw (c .before .before .enum-told4 .given .1) (record { area-is = c .reply-area3 .ensures ∙ rw (c .before .count-elements .ensures); values-are = refl })
 
--- src/lib.rt:99:1
 returns-5 : tie.Need-returns-5
 returns-5 c = rw (c .before .enum-told5 .given .1) (record { area-is = c .reply-area4 .ensures; values-are = refl })
 

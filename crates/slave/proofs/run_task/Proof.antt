@@ -10,24 +10,19 @@ use Rattle.slave.proofs.run_task.Lts as lts
 use Rattle.net.proofs.read_area.Reads as read-area-reads
 use Rattle.slave.proofs.perform.Reads as perform-reads
 
--- src/lib.rt:205:9
 returns : tie.Need-returns
 unfolding taskDone
 returns c = rw (c .if1 .taken) (record { area-is = refl; values-are = refl })
 
--- src/lib.rt:211:9
 read-area-requires : tie.Need-read-area-requires
 read-area-requires c κs = search needs
 
--- src/lib.rt:212:5
 perform-requires : tie.Need-perform-requires
 perform-requires c κs = search needs
 
--- src/lib.rt:200:1
 same-length : tie.Need-same-length
 same-length c = search needs
 
--- src/lib.rt:200:1
 returns-2 : tie.Need-returns-2
 unfolding taskDone
 returns-2 c =

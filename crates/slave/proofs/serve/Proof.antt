@@ -10,23 +10,18 @@ use Rattle.opening.proofs.open.Reads as open-reads
 use Rattle.slave.proofs.execute.Reads as execute-reads
 use Rattle.slave.proofs.refuse.Reads as refuse-reads
 
--- src/lib.rt:370:11
 open-requires : tie.Need-open-requires
 open-requires c κs = search needs
 
--- src/lib.rt:371:26
 enum-known-fault : tie.Need-enum-known-fault
 enum-known-fault c = search needs
 
--- src/lib.rt:371:36
 refuse-requires : tie.Need-refuse-requires
 refuse-requires c κs = search needs
 
--- src/lib.rt:372:50
 enum-told : tie.Need-enum-told
 enum-told c = search needs
 
--- src/lib.rt:372:28
 execute-requires : tie.Need-execute-requires
 execute-requires c κs =
     let o = c .before .before .before .before in
@@ -34,11 +29,9 @@ execute-requires c κs =
     let e = sym (o .«open» .ensures) ∙ c .before .before .enum-told .given .1 in
     e
 
--- src/lib.rt:359:1
 same-length : tie.Need-same-length
 same-length c = search needs
 
--- src/lib.rt:359:1
 returns : tie.Need-returns
 returns c =
     let o = c .before .before .before .before in
@@ -46,15 +39,12 @@ returns c =
     let e = sym (o .«open» .ensures) ∙ c .before .before .fault .given .1 in
     rw (called (a .setup) (a .table .now) (a .values .now) (a .control) (a .status) (a .received .now) (a .reply .now) _ e) (record { answers = c .refuse .ensures; values-are = refl; reply-is = refl })
 
--- src/lib.rt:359:1
 same-length-2 : tie.Need-same-length-2
 same-length-2 c = search needs
 
--- src/lib.rt:359:1
 same-length-3 : tie.Need-same-length-3
 same-length-3 c = search needs
 
--- src/lib.rt:359:1
 returns-2 : tie.Need-returns-2
 returns-2 c =
     let o = c .before .before .before .before .before .before .before .before .before in

@@ -16,60 +16,46 @@ use Rattle.slave.proofs.read_command.Reads as read-command-reads
 use Rattle.slave.proofs.refuse.Reads as refuse-reads
 use Rattle.words.proofs.word_at.Reads as word-at-reads
 
--- src/lib.rt:313:15
 cast-if1 : tie.Need-cast-if1
 cast-if1 c = search needs
 
--- src/lib.rt:313:38
 cast-if1-2 : tie.Need-cast-if1-2
 cast-if1-2 c = search needs
 
--- src/lib.rt:313:14
 add-if1 : tie.Need-add-if1
 add-if1 c = search needs
 
--- src/lib.rt:313:13
 mul-if1 : tie.Need-mul-if1
 mul-if1 c = search needs
 
--- src/lib.rt:314:9
 refuse-requires : tie.Need-refuse-requires
 refuse-requires c κs = search needs
 
--- src/lib.rt:314:9
 returns : tie.Need-returns
 unfolding broadcastCase
 returns c = search (tests, c .refuse .ensures)
 
--- src/lib.rt:316:9
 read-command-requires : tie.Need-read-command-requires
 read-command-requires c κs = search needs
 
--- src/lib.rt:317:43
 cast-word-at : tie.Need-cast-word-at
 cast-word-at c = search needs
 
--- src/lib.rt:317:42
 mul-word-at : tie.Need-mul-word-at
 mul-word-at c = search needs
 
--- src/lib.rt:317:42
 add-word-at : tie.Need-add-word-at
 add-word-at c = search needs
 
--- src/lib.rt:317:9
 word-at-requires : tie.Need-word-at-requires
 word-at-requires c κs = search needs
 
--- src/lib.rt:318:8
 is-void-requires : tie.Need-is-void-requires
 is-void-requires c κs = search needs
 
--- src/lib.rt:319:9
 refuse-requires-2 : tie.Need-refuse-requires-2
 refuse-requires-2 c κs = search needs
 
--- src/lib.rt:319:9
 void : (c : tie.After-is-void) → (let a = c .before .before .before .before .before .before .before .before .args in c .is-void .result ≡ isVoid (commandAt (a .received .now) (a .setup .pkw)) (a .setup .pkw) (a .setup .pzd) (firstWord (a .setup) (a .received .now)))
 void c = c .is-void .ensures ∙ rw (c .before .before .before .read-command .ensures, c .before .word-at .ensures)
 
@@ -78,15 +64,12 @@ returns-2 c =
     let v = c .before .before in
     c .refuse2 .ensures ∙ sym (broadcast-void _ _ _ _ (v .before .before .before .before .if1 .left) (sym (void v) ∙ c .before .if2 .taken))
 
--- src/lib.rt:321:9
 read-process-requires : tie.Need-read-process-requires
 read-process-requires c κs = search needs
 
--- src/lib.rt:325:18
 command-control-requires : tie.Need-command-control-requires
 command-control-requires c κs = search needs
 
--- src/lib.rt:310:1
 returns-3 : tie.Need-returns-3
 returns-3 c =
     let e = c .before .before in

@@ -15,24 +15,19 @@ use Rattle.slave.proofs.serve_mirror.Lts as lts
 use Rattle.slave.proofs.refuse.Reads as refuse-reads
 use Rattle.store.proofs.put.Reads as put-reads
 
--- src/lib.rt:299:9
 refuse-requires : tie.Need-refuse-requires
 refuse-requires c κs = search needs
 
--- src/lib.rt:299:9
 returns : tie.Need-returns
 unfolding mirrorCase
 returns c = search (tests, c .refuse .ensures)
 
--- src/lib.rt:301:9
 put-requires : tie.Need-put-requires
 put-requires c κs = search needs
 
--- src/lib.rt:288:1
 same-length : tie.Need-same-length
 same-length c = search needs
 
--- src/lib.rt:288:1
 returns-2 : tie.Need-returns-2
 unfolding mirrorCase
 returns-2 c =

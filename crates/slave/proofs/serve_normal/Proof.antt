@@ -15,68 +15,54 @@ use Rattle.slave.proofs.refuse.Reads as refuse-reads
 use Rattle.slave.proofs.run_task.Reads as run-task-reads
 use Rattle.slave.proofs.take_control.Reads as take-control-reads
 
--- src/lib.rt:272:9
 refuse-requires : tie.Need-refuse-requires
 refuse-requires c κs = search needs
 
--- src/lib.rt:272:9
 returns : tie.Need-returns
 returns c =
     let a = c .before .before .before .before .before .before .before .args in
     rw (normal-other-node (a .node) (a .n) (a .setup) (a .table .now) (a .values .now) (a .control) (a .status) (a .received .now) (a .reply .now) (c .before .if1 .taken))
     (record { answers = c .refuse .ensures; values-are = refl; reply-is = refl })
 
--- src/lib.rt:274:15
 cast-if2 : tie.Need-cast-if2
 cast-if2 c = search needs
 
--- src/lib.rt:274:38
 cast-if2-2 : tie.Need-cast-if2-2
 cast-if2-2 c = search needs
 
--- src/lib.rt:274:14
 add-if2 : tie.Need-add-if2
 add-if2 c = search needs
 
--- src/lib.rt:274:13
 mul-if2 : tie.Need-mul-if2
 mul-if2 c = search needs
 
--- src/lib.rt:275:9
 refuse-requires-2 : tie.Need-refuse-requires-2
 refuse-requires-2 c κs = search needs
 
--- src/lib.rt:275:9
 returns-2 : tie.Need-returns-2
 returns-2 c =
     let a = c .before .before .before .before .before .before .before .before .before .before .args in
     rw (normal-other-length (a .node) (a .n) (a .setup) (a .table .now) (a .values .now) (a .control) (a .status) (a .received .now) (a .reply .now) (c .before .before .before .before .if1 .left) (c .before .if2 .taken))
     (record { answers = c .refuse2 .ensures; values-are = refl; reply-is = refl })
 
--- src/lib.rt:277:9
 run-task-requires : tie.Need-run-task-requires
 run-task-requires c κs =
     let a = c .before .before .before .before .before .before .before .before .before .before in
     let o = opened (a .args .setup) (a .args .table .now) (a .args .values .now) (length (a .args .reply .now)) (a .pre) in
     (o .short, omega (arith, o .count))
 
--- src/lib.rt:278:9
 take-control-requires : tie.Need-take-control-requires
 take-control-requires c κs = search needs
 
--- src/lib.rt:279:9
 write-normal-requires : tie.Need-write-normal-requires
 write-normal-requires c κs = search needs
 
--- src/lib.rt:257:1
 same-length : tie.Need-same-length
 same-length c = search needs
 
--- src/lib.rt:257:1
 same-length-2 : tie.Need-same-length-2
 same-length-2 c = search needs
 
--- src/lib.rt:257:1
 returns-3 : tie.Need-returns-3
 returns-3 c =
     let w = c .before .before in

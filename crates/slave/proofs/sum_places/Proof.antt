@@ -19,30 +19,24 @@ Inv-loop t k sum₀ i₀ sum i =
 abbrev μ-loop : tie.MeasureT-loop
 μ-loop t k sum₀ i₀ sum i = k - i
 
--- src/lib.rt:71:5
 loop-holds : tie.Need-loop-holds Inv-loop μ-loop
 loop-holds c = (omega arith, omega arith, rw sub-zero (omega arith))
 
--- src/lib.rt:72:16
 count-at-requires : tie.Need-count-at-requires Inv-loop μ-loop
 count-at-requires c κs = omega arith
 
--- src/lib.rt:72:9
 add-sum : tie.Need-add-sum Inv-loop μ-loop
 add-sum c =
     let e = c .count-at .ensures in
     let l = c .before .before in
     omega (arith, count-at-le (now (l .before .before .args .t)) (l .loop .i))
 
--- src/lib.rt:71:9
 add-i : tie.Need-add-i Inv-loop μ-loop
 add-i c = omega arith
 
--- src/lib.rt:71:5
 loop-less : tie.Need-loop-less Inv-loop μ-loop
 loop-less c = omega arith
 
--- src/lib.rt:71:5
 loop-again : tie.Need-loop-again Inv-loop μ-loop
 loop-again c =
     let l = c .before .before in
@@ -51,7 +45,6 @@ loop-again c =
     let all = ap countsOf (entries-step (now (a .t)) (a .k) (l .loop .i) (c .before .loop-test .taken)) ∙ counts-more _ _ in
     (omega arith, omega (arith, count-at-le (now (a .t)) (l .loop .i)), omega arith)
 
--- src/lib.rt:67:1
 returns : tie.Need-returns Inv-loop μ-loop
 returns c =
     let a = c .before .before .before .args in

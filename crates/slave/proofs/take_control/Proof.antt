@@ -10,37 +10,29 @@ use Rattle.slave.proofs.take_control.Lts as lts
 use Rattle.net.proofs.read_process.Reads as read-process-reads
 use Rattle.words.proofs.word_at.Reads as word-at-reads
 
--- src/lib.rt:222:47
 cast-word-at : tie.Need-cast-word-at
 cast-word-at c = search needs
 
--- src/lib.rt:222:46
 mul-word-at : tie.Need-mul-word-at
 mul-word-at c = search needs
 
--- src/lib.rt:222:46
 add-word-at : tie.Need-add-word-at
 add-word-at c = search needs
 
--- src/lib.rt:222:13
 word-at-requires : tie.Need-word-at-requires
 word-at-requires c κs = search needs
 
--- src/lib.rt:224:13
 read-process-requires : tie.Need-read-process-requires
 read-process-requires c κs = search needs
 
--- src/lib.rt:224:13
 returns : tie.Need-returns
 unfolding controlTaken
 returns c = search (tests, c .read-process .ensures, ← (c .before .before .word-at .ensures))
 
--- src/lib.rt:218:1
 returns-2 : tie.Need-returns-2
 unfolding controlTaken
 returns-2 c = search (tests, ← (c .before .word-at .ensures))
 
--- src/lib.rt:218:1
 returns-3 : tie.Need-returns-3
 unfolding controlTaken
 returns-3 c = search tests

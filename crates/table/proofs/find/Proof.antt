@@ -19,23 +19,18 @@ Inv-loop t number n k₀ k = (k ≤ n) × (findFrom number (entriesFrom t n 0) 0
 abbrev μ-loop : tie.MeasureT-loop
 μ-loop t number n k₀ k = n - k
 
--- src/lib.rt:46:9
 loop-holds : tie.Need-loop-holds Inv-loop μ-loop
 loop-holds c = (omega arith, rw sub-zero)
 
--- src/lib.rt:50:12
 has-number-requires : tie.Need-has-number-requires Inv-loop μ-loop
 has-number-requires c κs = omega arith
 
--- src/lib.rt:53:9
 add-k : tie.Need-add-k Inv-loop μ-loop
 add-k c = omega arith
 
--- src/lib.rt:46:9
 loop-less : tie.Need-loop-less Inv-loop μ-loop
 loop-less c = omega arith
 
--- src/lib.rt:46:9
 loop-again : tie.Need-loop-again Inv-loop μ-loop
 loop-again c =
     let e = c .before .before in
@@ -43,12 +38,10 @@ loop-again c =
     let t = now (l .before .before .args .t) in
     (omega arith, l .loop .inv .1 ∙ rw (entries-step t _ (l .loop .k) (e .if1 .left)) (find-on _ _ _ _ (eqb-false _ _ (sym (c .before .has-number .ensures) ∙ c .if2 .left))))
 
--- src/lib.rt:41:1
 returns : tie.Need-returns Inv-loop μ-loop
 unfolding entries
 returns c = sym (c .before .loop .inv .1 ∙ rw (entries-end _ _ _ (c .if1 .taken)) (find-none _ _))
 
--- src/lib.rt:41:1
 returns-2 : tie.Need-returns-2 Inv-loop μ-loop
 unfolding entries
 returns-2 c =

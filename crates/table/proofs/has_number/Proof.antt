@@ -9,41 +9,32 @@ use Rattle.table.proofs.has_number.Tie as tie
 use Rattle.table.proofs.has_number.Reads as reads
 use Rattle.table.proofs.has_number.Lts as lts
 
--- src/lib.rt:19:10
 mul-if1 : tie.Need-mul-if1
 mul-if1 c = search needs
 
--- src/lib.rt:19:8
 shared-slice-read-if1 : tie.Need-shared-slice-read-if1
 shared-slice-read-if1 c = search needs
 
--- src/lib.rt:19:8
 cast-if1 : tie.Need-cast-if1
 cast-if1 c = omega (arith, c .shared-slice-known .given (12 * c .before .args .k))
 
--- src/lib.rt:20:11
 mul-result : tie.Need-mul-result
 mul-result c = search needs
 
--- src/lib.rt:20:11
 add-result : tie.Need-add-result
 add-result c = search needs
 
--- src/lib.rt:20:9
 shared-slice-read-result : tie.Need-shared-slice-read-result
 shared-slice-read-result c = search needs
 
--- src/lib.rt:20:9
 cast-result : tie.Need-cast-result
 cast-result c = omega (arith, c .shared-slice-known2 .given (12 * c .before .before .before .args .k + 1))
 
--- src/lib.rt:15:1
 returns : tie.Need-returns
 returns c =
     let s = c .before .before in
     number-same (now (s .before .args .t)) (s .before .args .k) (s .before .args .number) (λ i. s .shared-slice-known .given i .fits) (c .before .if1 .taken)
 
--- src/lib.rt:15:1
 returns-2 : tie.Need-returns-2
 returns-2 c =
     let s = c .before in

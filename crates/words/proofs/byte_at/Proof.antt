@@ -7,15 +7,12 @@ use Rattle.words.proofs.byte_at.Tie as tie
 use Rattle.words.proofs.byte_at.Reads as reads
 use Rattle.words.proofs.byte_at.Lts as lts
 
--- src/lib.rt:32:23
 shared-slice-read-result : tie.Need-shared-slice-read-result
 shared-slice-read-result c = search needs
 
--- src/lib.rt:29:1
 returns : tie.Need-returns
 returns c = search needs
 
--- src/lib.rt:29:1
 returns-2 : tie.Need-returns-2
 returns-2 c = sym (byte-past (c .before .args .t .now) _ (c .if1 .left))
 

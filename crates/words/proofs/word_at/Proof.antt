@@ -12,35 +12,27 @@ use Rattle.words.proofs.word_at.Reads as reads
 use Rattle.words.proofs.word_at.Lts as lts
 use Rattle.words.proofs.join.Reads as join-reads
 
--- src/lib.rt:42:25
 shared-slice-read-join : tie.Need-shared-slice-read-join
 shared-slice-read-join c = search needs
 
--- src/lib.rt:42:34
 add-join : tie.Need-add-join
 add-join c = search needs
 
--- src/lib.rt:42:32
 shared-slice-read-join-2 : tie.Need-shared-slice-read-join-2
 shared-slice-read-join-2 c = search needs
 
--- src/lib.rt:42:13
 join-requires : tie.Need-join-requires
 join-requires c κs = search needs
 
--- src/lib.rt:42:13
 returns : tie.Need-returns
 returns c = search needs
 
--- src/lib.rt:46:21
 shared-slice-read-join-3 : tie.Need-shared-slice-read-join-3
 shared-slice-read-join-3 c = search needs
 
--- src/lib.rt:46:9
 join-requires-2 : tie.Need-join-requires-2
 join-requires-2 c κs = search needs
 
--- src/lib.rt:46:9
 returns-2 : tie.Need-returns-2
 returns-2 c =
     let j = c .before .before .before in
@@ -48,7 +40,6 @@ returns-2 c =
     let past : length (a .t .now) ≤ a .at + 1 = ⊎-elim (λ w. omega arith) (λ w. omega arith) (j .if1 .came) in
     omega (arith, c .join2 .ensures, byte-past (a .t .now) (a .at + 1) past)
 
--- src/lib.rt:36:1
 returns-3 : tie.Need-returns-3
 returns-3 c = sym (word-past (c .before .before .before .args .t .now) _ (c .if3 .left))
 
