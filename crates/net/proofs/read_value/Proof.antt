@@ -1,5 +1,6 @@
 -- `net::read_value` meets its contract. Assumes nothing.
-use mathlib.Core.Path.{sym, _∙_}
+use mathlib.Core.Path.{_≡_, refl, sym, _∙_}
+use Prim.Native.Nat.{_*_, _-_}
 use native.Mathlib.Omega.{arith}
 use Rattle.net.specs.Read.{valueAt}
 use Rattle.net.proofs.ReadLaws.{value-last}
@@ -12,40 +13,42 @@ use Rattle.words.proofs.double_at.Reads as double-at-reads
 use Rattle.words.proofs.word_at.Reads as word-at-reads
 
 -- src/lib.rt:137:9
+double-at-requires : tie.Need-double-at-requires
+double-at-requires c κs = search needs
+
+-- src/lib.rt:137:9
 returns : tie.Need-returns
-unfolding valueAt
-returns c = rw (c .if1 .taken)
-
--- src/lib.rt:140:16
-word-at-requires : tie.Need-word-at-requires
-word-at-requires c κs = search needs
-
--- src/lib.rt:140:16
-cast-result : tie.Need-cast-result
-cast-result c = search needs
+returns c =
+    let k = c .before .before in
+    rw (c .before .if1 .taken) (c .double-at .ensures ∙ sym (value-last _ 2 7 (λ i. k .shared-slice-known .given i .fits) (omega arith) refl))
 
 -- src/lib.rt:140:9
 returns-2 : tie.Need-returns-2
 unfolding valueAt
-returns-2 c = rw (c .before .if2 .taken) (omega (arith, c .word-at .ensures))
+returns-2 c =
+    let e : c .before .before .before .args .n - 2 ≡ 0 = omega arith in
+    rw e
 
 -- src/lib.rt:143:16
-double-at-requires : tie.Need-double-at-requires
-double-at-requires c κs = search needs
+word-at-requires : tie.Need-word-at-requires
+word-at-requires c κs = search needs
 
 -- src/lib.rt:143:16
+cast-result : tie.Need-cast-result
+cast-result c = search needs
+
+-- src/lib.rt:143:9
 returns-3 : tie.Need-returns-3
-returns-3 c =
-    let k = c .before .before .before .before in
-    rw (c .before .if3 .taken) (c .double-at .ensures ∙ sym (value-last _ 2 (λ i. k .shared-slice-known .given i .fits) (omega arith)))
+unfolding valueAt
+returns-3 c = rw (c .before .if3 .taken) (omega (arith, c .word-at .ensures))
 
 -- src/lib.rt:145:25
 mul-double-at : tie.Need-mul-double-at
 mul-double-at c = search needs
 
 -- src/lib.rt:145:25
-add-double-at : tie.Need-add-double-at
-add-double-at c = search needs
+sub-double-at : tie.Need-sub-double-at
+sub-double-at c = search needs
 
 -- src/lib.rt:145:5
 double-at-requires-2 : tie.Need-double-at-requires-2
@@ -55,19 +58,20 @@ double-at-requires-2 c κs = search needs
 returns-4 : tie.Need-returns-4
 returns-4 c =
     let k = c .before .before .before .before in
-    c .double-at2 .ensures ∙ sym (value-last _ _ (λ i. k .shared-slice-known .given i .fits) (omega arith))
+    let n = k .before .args .n in
+    c .double-at2 .ensures ∙ sym (value-last _ (n - 2) (n * 2 - 1) (λ i. k .shared-slice-known .given i .fits) (omega arith) (omega arith))
 
 pub read-value-spec : {M : Type 1} → statement M
 read-value-spec =
     tie.close
     (tie.spec
+    double-at-requires
     returns
+    returns-2
     word-at-requires
     cast-result
-    returns-2
-    double-at-requires
     returns-3
     mul-double-at
-    add-double-at
+    sub-double-at
     double-at-requires-2
     returns-4)
