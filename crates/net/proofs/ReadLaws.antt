@@ -98,14 +98,13 @@ value-back (suc (suc zero)) v t s f h =
 value-back (suc (suc (suc n))) v t s f h = absurd (omega arith)
 
 -- a value over two words and more is that of the last two
-pub value-last : (t : List ℕ) (n : ℕ) → Bytes t → 2 ≤ n → valueAt t n ≡ doubleAt t (n * 2 + 3)
+pub value-last : (t : List ℕ) (n p : ℕ) → Bytes t → 2 ≤ n → p ≡ n * 2 + 3 → valueAt t n ≡ doubleAt t p
 unfolding valueAt
-value-last t zero h two = absurd (omega arith)
-value-last t (suc zero) h two = absurd (omega arith)
-value-last t (suc (suc n)) h two =
-    let e : suc n * 2 + 7 ≡ suc (suc n) * 2 + 3 + 2 = omega arith in
-    let f : n * 2 + 7 ≡ suc (suc n) * 2 + 3 = omega arith in
-    let p = suc (suc n) * 2 + 3 in
+value-last t zero p h two at = absurd (omega arith)
+value-last t (suc zero) p h two at = absurd (omega arith)
+value-last t (suc (suc n)) p h two at =
+    let e : suc n * 2 + 7 ≡ p + 2 = omega arith in
+    let f : n * 2 + 7 ≡ p = omega arith in
     rw (e, f) (ap (λ (x : ℕ). doubleOf x (wordAt t (p + 2))) (omega (arith, h p, h (p + 1))))
 
 module _ (adr : ℕ) (a : Area) (n : ℕ) (w : Words) (pzd : ℕ) where

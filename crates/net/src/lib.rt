@@ -2,7 +2,7 @@
 // them (document 01, Frame and Parameter area). Slave and master read and write here alike.
 ghost use mathlib.Core.Path.{_≡_};
 ghost use mathlib.Core.List.{[], _∷_};
-ghost use Prim.Native.Nat.{_+_, _*_, _≤_};
+ghost use Prim.Native.Nat.{_+_, _*_, _-_, _≤_};
 ghost use lib.ListN.{length, take};
 ghost use lib.Seq.{sets};
 ghost use Rattle.net.specs.Telegram.{sealedOf, sealedLength};
@@ -129,20 +129,20 @@ pub fn write_normal(out: &mut [u8], adr: u8, area: Area, n: u8, process: Words, 
     seal(out, adr, count + (pzd as usize) * 2)
 }
 
-// The value over `count` words from place 7 on, high word first. Of more than two words the last two are left.
-fn read_value(t: &[u8], count: u8) -> u32
-    ensures { λ r. ⌜ r ≡ valueAt (now (t .entry)) count ⌝ }
+// The value of an area of n words, from place 7 on, high word first. Of more than two words the last two are left.
+fn read_value(t: &[u8], n: u8) -> u32
+    ensures { λ r. ⌜ r ≡ valueAt (now (t .entry)) (n - 2) ⌝ }
 {
-    if count == 0 {
-        return 0;
-    }
-    if count == 1 {
-        return words::word_at(t, 7) as u32;
-    }
-    if count == 2 {
+    if n == 4 {
         return words::double_at(t, 7);
     }
-    words::double_at(t, (count as usize) * 2 + 3)
+    if n < 3 {
+        return 0;
+    }
+    if n == 3 {
+        return words::word_at(t, 7) as u32;
+    }
+    words::double_at(t, (n as usize) * 2 - 1)
 }
 
 // The parameter area of n words at the place of the first net byte.
@@ -151,8 +151,7 @@ pub fn read_area(t: &[u8], n: u8) -> Area
 {
     let pke = words::word_at(t, 3);
     let ind = words::word_at(t, 5);
-    let count = if 2 <= n { n - 2 } else { 0 };
-    let value = read_value(t, count);
+    let value = read_value(t, n);
     Area { pke, ind, value }
 }
 

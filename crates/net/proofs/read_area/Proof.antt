@@ -1,8 +1,4 @@
 -- `net::read_area` meets its contract. Assumes nothing.
-use mathlib.Core.Path.{_≡_, refl, sym, ap, _∙_}
-use Prim.Native.Nat.{_-_}
-use mathlib.Core.Logic.{⊎-elim}
-use native.Mathlib.Omega.{arith}
 use Rattle.net.specs.Read.{areaAt}
 use borrow.Author.Needs.{needs}
 use Rattle.net.proofs.read_area.Statement.{statement}
@@ -23,12 +19,7 @@ read-value-requires c κs = search needs
 
 returns : tie.Need-returns
 unfolding areaAt
-returns c =
-    let j = c .before in
-    let i = j .before in
-    let a = i .before .before .before .args in
-    let e : j .if1 .count ≡ a .n - 2 = ⊎-elim (λ w. omega arith) (λ w. omega arith) (j .if1 .came) in
-    rw (i .before .word-at .ensures, i .word-at2 .ensures, c .read-value .ensures, e)
+returns c = rw (c .before .before .word-at .ensures, c .before .word-at2 .ensures, c .read-value .ensures)
 
 pub read-area-spec : {M : Type 1} → statement M
 read-area-spec =
