@@ -19,6 +19,7 @@
 #define PLACES 4096u
 #define NUMBERS 32000u
 #define SPARE 0x3Fu
+#define ELEMENTS 0x3FC0u
 #define BELOW_NUMBER 0x1FFFFu
 #define DOUBLE 0x10000u
 #define SIGNED 0x8000u
@@ -27,6 +28,27 @@
 
 /* ---- bytes and words, high byte first */
 
+/* Words are moved whole, and turned where the machine has its low byte first: compilers make one or two instructions of each,
+ * which they do not always do of shifted bytes. */
+static int low_byte_first(void)
+{
+    const union {
+        uint16_t word;
+        uint8_t bytes[2];
+    } probe = {1};
+    return probe.bytes[0] == 1;
+}
+
+static uint32_t turn32(uint32_t w)
+{
+    return w >> 24 | (w >> 8 & 0xFF00u) | (w << 8 & 0xFF0000u) | w << 24;
+}
+
+static uint64_t turn64(uint64_t w)
+{
+    return (uint64_t)turn32((uint32_t)w) << 32 | turn32((uint32_t)(w >> 32));
+}
+
 static uint32_t get16(const uint8_t *p)
 {
     return (uint32_t)p[0] << 8 | p[1];
@@ -34,13 +56,16 @@ static uint32_t get16(const uint8_t *p)
 
 static uint32_t get32(const uint8_t *p)
 {
-    return (uint32_t)p[0] << 24 | (uint32_t)p[1] << 16 | (uint32_t)p[2] << 8 | p[3];
+    uint32_t w;
+    memcpy(&w, p, sizeof w);
+    return low_byte_first() ? turn32(w) : w;
 }
 
 static uint64_t get64(const uint8_t *p)
 {
-    return (uint64_t)p[0] << 56 | (uint64_t)p[1] << 48 | (uint64_t)p[2] << 40 | (uint64_t)p[3] << 32
-        | (uint64_t)p[4] << 24 | (uint64_t)p[5] << 16 | (uint64_t)p[6] << 8 | p[7];
+    uint64_t w;
+    memcpy(&w, p, sizeof w);
+    return low_byte_first() ? turn64(w) : w;
 }
 
 static void put16(uint8_t *p, uint32_t w)
@@ -119,16 +144,21 @@ static uint32_t frame_fault(const uint8_t *t, size_t n)
 
 /* ---- table and values: 21 and 22 */
 
-/* What is added to values and limits of a kind, so that they compare as unsigned numbers. */
-static uint32_t flip_of(uint32_t head)
+/* By kind, bits 16 and 15 of a head (double, signed): the bit that is flipped in values and limits so that they compare as
+ * unsigned numbers, and the largest number. */
+static const uint32_t flips[4] = {0, 0x8000u, 0, 0x80000000u};
+static const uint32_t tops[4] = {0xFFFFu, 0xFFFFu, 0xFFFFFFFFu, 0xFFFFFFFFu};
+
+static uint32_t kind_of(uint32_t head)
 {
-    return head & SIGNED ? head & DOUBLE ? 0x80000000u : 0x8000u : 0;
+    return head >> 15 & 3;
 }
 
-/* Whether a record's limits are in order; flipped. Where a word's maximum fits, its minimum does. */
-static int limits_ok(uint32_t head, uint32_t min, uint32_t max)
+/* Whether a record's limits are in order. Where a word's maximum fits, its minimum does. */
+static int limits_ok(uint32_t head, uint64_t limits)
 {
-    return min <= max && (max <= 0xFFFF || head & DOUBLE);
+    uint32_t flip = flips[kind_of(head)], min = (uint32_t)(limits >> 32) ^ flip, max = (uint32_t)limits ^ flip;
+    return min <= max && max <= tops[kind_of(head)];
 }
 
 static uint32_t places_of(uint32_t head)
@@ -138,15 +168,15 @@ static uint32_t places_of(uint32_t head)
 }
 
 /* 21 or 22 where something is wrong with a record or its values: goes on with the table, from this record on. */
-static uint32_t judge(const uint8_t *record, const uint8_t *end, uint64_t least, size_t places)
+static uint32_t judge(const uint8_t *record, const uint8_t *end, int64_t last, size_t places)
 {
     for (; record != end; record += RECORD) {
-        uint32_t head = get32(record), flip = flip_of(head);
-        if (head < least || head >> 17 >= NUMBERS || head & SPARE || (head >> 6 & 0xFF) == 0xFF
-            || !limits_ok(head, get32(record + 4) ^ flip, get32(record + 8) ^ flip))
+        uint32_t head = get32(record);
+        if ((int64_t)head <= last || head >> 17 >= NUMBERS || head & SPARE || (head >> 6 & 0xFF) == 0xFF
+            || !limits_ok(head, get64(record + 4)))
             return USS_BAD_TABLE;
         places += places_of(head);
-        least = (uint64_t)(head | BELOW_NUMBER) + 1;
+        last = head | BELOW_NUMBER;
     }
     return places > PLACES ? USS_BAD_TABLE : USS_BAD_VALUES;
 }
@@ -154,74 +184,77 @@ static uint32_t judge(const uint8_t *record, const uint8_t *end, uint64_t least,
 /* Whether the one value of a record without array is inside its limits, and these are in order. */
 static int one_ok(uint32_t head, uint64_t limits, uint32_t value)
 {
-    uint32_t min, max = (uint32_t)limits;
+    uint32_t min = (uint32_t)(limits >> 32), max = (uint32_t)limits;
     if (head & DOUBLE) {
-        min = (uint32_t)(limits >> 32);
-        if (head & SIGNED) {
-            min ^= 0x80000000u;
-            max ^= 0x80000000u;
-            value ^= 0x80000000u;
-        }
-        return min <= value && value <= max;
+        if (head & SIGNED)
+            return (int32_t)value <= (int32_t)max && (int32_t)min <= (int32_t)value;
+        return value <= max && min <= value;
     }
-    if (head & SIGNED) {
-        limits ^= 0x0000800000008000u;
-        max = (uint32_t)limits;
-        value ^= 0x8000u;
-    }
-    min = (uint32_t)(limits >> 32);
-    return max <= 0xFFFF && min <= value && value <= max;
+    if (max > 0xFFFF)
+        return 0;
+    if (head & SIGNED)
+        return (value ^ 0x8000u) <= (max ^ 0x8000u) && (min ^ 0x8000u) <= (value ^ 0x8000u);
+    return value <= max && min <= value;
 }
 
-/* The same of an array. */
+/* The same of an array with n elements. */
 static int array_ok(uint32_t head, uint64_t limits, const uint32_t *values, uint32_t n)
 {
-    uint32_t flip = flip_of(head), min = (uint32_t)(limits >> 32) ^ flip, max = (uint32_t)limits ^ flip, i, out = 0;
-    if (head & SPARE || n == 0xFF || !limits_ok(head, min, max))
+    uint32_t kind = kind_of(head), flip = flips[kind], min = (uint32_t)(limits >> 32) ^ flip, max = (uint32_t)limits ^ flip;
+    uint32_t i, out = 0;
+    if (min > max || max > tops[kind])
         return 0;
     for (i = 0; i < n; i++)
-        out |= (values[i] ^ flip) - min > max - min;
-    return !out;
+        out += (values[i] ^ flip) - min > max - min;
+    return out == 0;
 }
 
 /* The one pass over table and values: 0, 21 or 22; `*place` is the first place of the record `asked`, where there is one. */
-static uint32_t content_fault(const uint8_t *table, const uint8_t *end, const uint32_t *values, size_t value_count,
-                              size_t records, const uint8_t *asked, const uint32_t **place)
+static uint32_t content_fault(const uint8_t *table, const uint8_t *end, uint32_t *values, size_t value_count,
+                              size_t records, const uint8_t *asked, uint32_t **place)
 {
     const uint8_t *record = table;
-    const uint32_t *value = values;
-    uint64_t least = 0;
+    uint32_t *value = values;
+    int64_t last = -1;                   /* the last head, with every bit below its number set */
     size_t more = value_count - records; /* places beyond one for each record */
 
     if (value_count < records)
-        return judge(table, end, 0, 0);
+        goto judged;
     for (;;) {
+        uint32_t head = 0, n;
+        uint64_t limits = 0;
         for (; record != asked; record += RECORD) {
-            uint32_t head = get32(record);
-            uint64_t limits = get64(record + 4);
-            if (head < least)
-                return USS_BAD_TABLE;
-            if ((head & 0x3FFF) == 0) {
-                if (!one_ok(head, limits, *value))
-                    return judge(record, end, least, (size_t)(value - values));
-                value++;
-            } else {
-                uint32_t n = places_of(head);
-                if (n - 1 > more || !array_ok(head, limits, value, n))
-                    return judge(record, end, least, (size_t)(value - values));
-                value += n;
-                more -= n - 1;
-            }
-            least = (uint64_t)(head | BELOW_NUMBER) + 1;
+            head = get32(record);
+            limits = get64(record + 4);
+            if ((int64_t)head <= last)
+                goto judged;
+            if (head & (ELEMENTS | SPARE))
+                break;
+            if (!one_ok(head, limits, *value))
+                goto judged;
+            value++;
+            last = head | BELOW_NUMBER;
         }
-        if (record == end)
-            break;
-        *place = value;
-        asked = end;
+        if (record == asked) {
+            if (record == end)
+                break;
+            *place = value;
+            asked = end;
+            continue;
+        }
+        n = head >> 6 & 0xFF;
+        if (head & SPARE || n == 0xFF || n - 1 > more || !array_ok(head, limits, value, n))
+            goto judged;
+        value += n;
+        more -= n - 1;
+        last = head | BELOW_NUMBER;
+        record += RECORD;
     }
-    if (least > (uint64_t)NUMBERS << 17 || value_count - more > PLACES)
+    if (last >> 17 >= (int64_t)NUMBERS || value_count - more > PLACES)
         return USS_BAD_TABLE;
     return more == 0 ? 0 : USS_BAD_VALUES;
+judged:
+    return judge(record, end, last, (size_t)(value - values));
 }
 
 /* ---- parameter tasks */
@@ -285,7 +318,7 @@ static uint64_t perform(uint32_t pke_ind, const uint8_t *p, int three, const uin
     if (task == USS_COUNT_ELEMENTS)
         return area(USS_ID_ELEMENTS, pke_ind, elements + (elements == 0));
     if (IN(CHANGES, task)) {
-        uint32_t flip = flip_of(head);
+        uint32_t flip = flips[kind_of(head)];
         if (IN(DOUBLE_CHANGES, task) != is_double)
             return area(USS_ID_ERROR, pke_ind, USS_OTHER_WIDTH);
         if (three && is_double)
@@ -355,7 +388,7 @@ uss_answer peer_slave(uss_setup setup, const uint8_t *table, size_t table_len, u
 {
     size_t records = table_len / RECORD;
     const uint8_t *end = table + table_len, *asked = end, *p;
-    const uint32_t *place = values;
+    uint32_t *place = values;
     uint32_t fault, opening, pke_ind = 0;
     uint64_t words = 0, sum;
     uint8_t *q;
@@ -401,7 +434,7 @@ uss_answer peer_slave(uss_setup setup, const uint8_t *table, size_t table_len, u
     if (setup.pkw != 0) {
         if (pke_ind >> 28 != 0)
             words = asked == end ? area(USS_ID_ERROR, pke_ind, USS_NO_PARAMETER)
-                                 : perform(pke_ind, received + 3, setup.pkw == 3, asked, values + (place - values));
+                                 : perform(pke_ind, received + 3, setup.pkw == 3, asked, place);
         put32(q, (uint32_t)(words >> 32));
         if (setup.pkw == 3) {
             put16(q + 4, (uint32_t)words);
