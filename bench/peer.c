@@ -31,7 +31,7 @@
 /* ---- bytes and words, high byte first: moved whole, and turned where the machine has its low byte first. Compilers make one
  * or two instructions of that, which they do not always do of single bytes. */
 
-static int low_byte_first(void)
+static inline int low_byte_first(void)
 {
     const union {
         uint16_t word;
@@ -40,35 +40,35 @@ static int low_byte_first(void)
     return probe.bytes[0] == 1;
 }
 
-static uint32_t turned(uint32_t w)
+static inline uint32_t turned(uint32_t w)
 {
     return low_byte_first() ? w >> 24 | (w >> 8 & 0xFF00u) | (w << 8 & 0xFF0000u) | w << 24 : w;
 }
 
-static uint32_t get16(const uint8_t *p)
+static inline uint32_t get16(const uint8_t *p)
 {
     return (uint32_t)p[0] << 8 | p[1];
 }
 
-static uint32_t get32(const uint8_t *p)
+static inline uint32_t get32(const uint8_t *p)
 {
     uint32_t w;
     memcpy(&w, p, sizeof w);
     return turned(w);
 }
 
-static uint64_t get64(const uint8_t *p)
+static inline uint64_t get64(const uint8_t *p)
 {
     return (uint64_t)get32(p) << 32 | get32(p + 4);
 }
 
-static void put16(uint8_t *p, uint32_t w)
+static inline void put16(uint8_t *p, uint32_t w)
 {
     p[0] = (uint8_t)(w >> 8);
     p[1] = (uint8_t)w;
 }
 
-static void put32(uint8_t *p, uint32_t w)
+static inline void put32(uint8_t *p, uint32_t w)
 {
     w = turned(w);
     memcpy(p, &w, sizeof w);
@@ -77,14 +77,14 @@ static void put32(uint8_t *p, uint32_t w)
 /* ---- XOR */
 
 /* Four and eight bytes in the machine's order. */
-static uint32_t raw32(const uint8_t *p)
+static inline uint32_t raw32(const uint8_t *p)
 {
     uint32_t w;
     memcpy(&w, p, sizeof w);
     return w;
 }
 
-static uint64_t raw64(const uint8_t *p)
+static inline uint64_t raw64(const uint8_t *p)
 {
     uint64_t w;
     memcpy(&w, p, sizeof w);
@@ -92,7 +92,7 @@ static uint64_t raw64(const uint8_t *p)
 }
 
 /* The XOR of a number's bytes. */
-static uint8_t fold(uint64_t x)
+static inline uint8_t fold(uint64_t x)
 {
     uint32_t y = (uint32_t)(x >> 32) ^ (uint32_t)x;
     y ^= y >> 16;
@@ -131,12 +131,12 @@ uint8_t peer_bcc(const uint8_t *p, size_t n)
 
 /* ---- four words as one number, the first in the lowest bits */
 
-static uint64_t packed(uss_words w)
+static inline uint64_t packed(uss_words w)
 {
     return w.w1 | (uint64_t)w.w2 << 16 | (uint64_t)w.w3 << 32 | (uint64_t)w.w4 << 48;
 }
 
-static uss_words unpacked(uint64_t x)
+static inline uss_words unpacked(uint64_t x)
 {
     uss_words w;
     w.w1 = (uint16_t)x;
@@ -146,7 +146,7 @@ static uss_words unpacked(uint64_t x)
     return w;
 }
 
-static uint32_t swapped(uint32_t two)
+static inline uint32_t swapped(uint32_t two)
 {
     return two >> 16 | two << 16;
 }
@@ -234,32 +234,41 @@ static uint32_t frame_fault(const uint8_t *t, size_t n)
 
 /* ---- table and values: 21 and 22 */
 
-/* By kind, bits 16 and 15 of a head (double, signed): the bit that is flipped in values and limits so that they compare as
- * unsigned numbers, and the largest number. */
-static const uint32_t flips[4] = {0, 0x8000u, 0, 0x80000000u};
-static const uint32_t tops[4] = {0xFFFFu, 0xFFFFu, 0xFFFFFFFFu, 0xFFFFFFFFu};
-
-static uint32_t kind_of(uint32_t head)
-{
-    return head >> 15 & 3;
-}
-
-static uint32_t elements_of(uint32_t head)
+static inline uint32_t elements_of(uint32_t head)
 {
     return head >> 6 & 0xFF;
 }
 
-static uint32_t places_of(uint32_t head)
+static inline uint32_t places_of(uint32_t head)
 {
     uint32_t elements = elements_of(head);
     return elements + (elements == 0);
 }
 
-/* Whether a record's limits are in order. Where a word's maximum fits, its minimum does. */
-static int limits_ok(uint32_t head, uint64_t limits)
+/* A record's limits as unsigned numbers: a value is inside if, flipped, it is at most `range` above `min`. The sign of a signed
+ * word is flipped; doubles stay as they are, since their distance from the minimum wraps. */
+struct span {
+    uint32_t flip, min, range;
+};
+
+/* Whether the limits are in order. Where a word's maximum fits, its minimum does. */
+static inline int limits_ok(uint32_t head, uint64_t limits, struct span *s)
 {
-    uint32_t flip = flips[kind_of(head)], min = (uint32_t)(limits >> 32) ^ flip, max = (uint32_t)limits ^ flip;
-    return min <= max && max <= tops[kind_of(head)];
+    uint32_t min = (uint32_t)(limits >> 32), max = (uint32_t)limits, flip = 0;
+    if (head & DOUBLE) {
+        if (head & SIGNED ? (int32_t)min > (int32_t)max : min > max)
+            return 0;
+    } else {
+        flip = head & SIGNED;
+        min ^= flip;
+        max ^= flip;
+        if (min > max || max > 0xFFFF)
+            return 0;
+    }
+    s->flip = flip;
+    s->min = min;
+    s->range = max - min;
+    return 1;
 }
 
 /* 21 or 22 where something is wrong with a record or its values: goes on with the table, from this record on. */
@@ -267,8 +276,9 @@ static uint32_t judge(const uint8_t *record, const uint8_t *end, int64_t last, s
 {
     for (; record != end; record += RECORD) {
         uint32_t head = get32(record);
+        struct span s;
         if ((int64_t)head <= last || head >> 17 >= NUMBERS || head & SPARE || elements_of(head) == 0xFF
-            || !limits_ok(head, get64(record + 4)))
+            || !limits_ok(head, get64(record + 4), &s))
             return USS_BAD_TABLE;
         places += places_of(head);
         last = head | BELOW_NUMBER;
@@ -277,7 +287,7 @@ static uint32_t judge(const uint8_t *record, const uint8_t *end, int64_t last, s
 }
 
 /* Whether the one value of a record without array is inside its limits, and these are in order. */
-static int one_ok(uint32_t head, uint64_t limits, uint32_t value)
+static inline int one_ok(uint32_t head, uint64_t limits, uint32_t value)
 {
     uint32_t min = (uint32_t)(limits >> 32), max = (uint32_t)limits;
     if (head & DOUBLE) {
@@ -292,16 +302,23 @@ static int one_ok(uint32_t head, uint64_t limits, uint32_t value)
     return value <= max && min <= value;
 }
 
-/* The same of an array with n elements. */
+/* The same of an array with n elements; eight at a time, without a way out between them, can be compiled to vectors. */
 static int array_ok(uint32_t head, uint64_t limits, const uint32_t *values, uint32_t n)
 {
-    uint32_t kind = kind_of(head), flip = flips[kind], min = (uint32_t)(limits >> 32) ^ flip, max = (uint32_t)limits ^ flip;
-    uint32_t i, out = 0;
-    if (min > max || max > tops[kind])
+    struct span s;
+    if (!limits_ok(head, limits, &s))
         return 0;
-    for (i = 0; i < n; i++)
-        out += (values[i] ^ flip) - min > max - min;
-    return out == 0;
+    for (; n >= 8; n -= 8, values += 8) {
+        uint32_t i, out = 0;
+        for (i = 0; i < 8; i++)
+            out |= (values[i] ^ s.flip) - s.min > s.range;
+        if (out != 0)
+            return 0;
+    }
+    for (; n > 0; n--, values++)
+        if ((*values ^ s.flip) - s.min > s.range)
+            return 0;
+    return 1;
 }
 
 /* The one pass over table and values: 0, 21 or 22; `*place` is the first place of the record `asked`, where there is one. */
