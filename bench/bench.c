@@ -5,12 +5,11 @@
  *     bench one ROW          the row's call, once: to be counted by callgrind
  *     bench floor ROW        the floor of the row's call, once
  *     bench time [floor]     a line for each row: its name, median nanoseconds of a call (or of its floor)
- *     bench stack            a line for each row: its name, stack bytes of a call
+ *     bench stack            a line for each row: its name, stack bytes of a call below its return address
  * All inputs are made here, the same at each run. Set-up of every row: node 5, PKW 4, PZD 2. */
 #define _DEFAULT_SOURCE
 #include "floor.h"
 #include "peer.h"
-#include "uss.h"
 
 #include <stdio.h>
 #include <stdlib.h>
@@ -58,55 +57,48 @@ union output {
     uint8_t bcc;
 };
 
-static union output call_tested(const struct input *in)
+/* An implementation; `nothing` does not look at what it is given. Not const, so that no call of them is compiled away. */
+struct calls {
+    uss_answer (*slave)(uss_setup, const uint8_t *, size_t, uint32_t *, size_t, uss_words, uss_words, const uint8_t *, size_t,
+                        uint8_t *, size_t);
+    uss_built (*build_task)(uss_setup, uint8_t, uint16_t, uint8_t, uint32_t, uss_words, uint8_t *, size_t);
+    uss_reply (*read_reply)(uss_setup, uint8_t, uint16_t, uint8_t, uint32_t, uss_words, const uint8_t *, size_t);
+    uint8_t (*bcc)(const uint8_t *, size_t);
+};
+
+struct calls tested = {SLAVE, BUILD_TASK, READ_REPLY, BCC};
+struct calls library = {uss_slave, uss_build_task, uss_read_reply, uss_bcc};
+struct calls nothing = {nothing_slave, nothing_build_task, nothing_read_reply, nothing_bcc};
+
+static union output call(const struct calls *c, const struct input *in)
 {
     union output o;
     memset(&o, 0, sizeof o);
     switch (in->call) {
     case CALL_SLAVE:
-        o.answer = SLAVE(in->setup, in->table, in->table_len, in->values, in->value_count, in->control, in->words,
-                         in->telegram, in->telegram_len, in->out, in->out_len);
+        o.answer = c->slave(in->setup, in->table, in->table_len, in->values, in->value_count, in->control, in->words,
+                            in->telegram, in->telegram_len, in->out, in->out_len);
         break;
     case CALL_BUILD:
-        o.built = BUILD_TASK(in->setup, in->task, in->parameter, in->index, in->value, in->words, in->out, in->out_len);
+        o.built = c->build_task(in->setup, in->task, in->parameter, in->index, in->value, in->words, in->out, in->out_len);
         break;
     case CALL_READ:
-        o.reply = READ_REPLY(in->setup, in->task, in->parameter, in->index, in->value, in->words, in->telegram,
-                             in->telegram_len);
+        o.reply = c->read_reply(in->setup, in->task, in->parameter, in->index, in->value, in->words, in->telegram,
+                                in->telegram_len);
         break;
     case CALL_BCC:
-        o.bcc = BCC(in->telegram, in->telegram_len);
+        o.bcc = c->bcc(in->telegram, in->telegram_len);
         break;
     }
     return o;
 }
 
-static union output call_library(const struct input *in)
-{
-    union output o;
-    memset(&o, 0, sizeof o);
-    switch (in->call) {
-    case CALL_SLAVE:
-        o.answer = uss_slave(in->setup, in->table, in->table_len, in->values, in->value_count, in->control, in->words,
-                             in->telegram, in->telegram_len, in->out, in->out_len);
-        break;
-    case CALL_BUILD:
-        o.built = uss_build_task(in->setup, in->task, in->parameter, in->index, in->value, in->words, in->out, in->out_len);
-        break;
-    case CALL_READ:
-        o.reply = uss_read_reply(in->setup, in->task, in->parameter, in->index, in->value, in->words, in->telegram,
-                                 in->telegram_len);
-        break;
-    case CALL_BCC:
-        o.bcc = uss_bcc(in->telegram, in->telegram_len);
-        break;
-    }
-    return o;
-}
-
+/* The slave reads table, values and telegram, the others a telegram alone. */
 static uint32_t call_floor(const struct input *in)
 {
-    return floor_call(in->table, in->table_len, in->values, in->value_count, in->telegram, in->telegram_len);
+    if (in->call == CALL_SLAVE)
+        return floor_slave(in->table, in->table_len, in->values, in->value_count, in->telegram, in->telegram_len);
+    return floor_bcc(in->telegram, in->telegram_len);
 }
 
 /* ---- tables: kinds in turn, the last record an unsigned word that can be written */
@@ -194,7 +186,7 @@ static void seal(uint8_t *t, size_t len, uint8_t adr)
     t[0] = 0x02;
     t[1] = (uint8_t)(len - 2);
     t[2] = adr;
-    t[len - 1] = floor_xor(t, len - 1);
+    t[len - 1] = floor_bcc(t, len - 1);
 }
 
 /* The row's call, on the buffers above. */
@@ -276,7 +268,7 @@ static int differ(const struct input *given)
     static uint32_t before[MOST_VALUES + 300], after[MOST_VALUES + 300];
     static uint8_t out_before[300], out_after[300];
     struct input in = *given;
-    union output tested, library;
+    union output got, want;
     size_t values_len = sizeof *in.values * in.value_count;
     int same;
 
@@ -286,16 +278,16 @@ static int differ(const struct input *given)
     in.out = memcpy(at_the_end(3, in.out_len), given->out, in.out_len);
     memcpy(before, in.values, values_len);
     memcpy(out_before, in.out, in.out_len);
-    tested = call_tested(&in);
+    got = call(&tested, &in);
     memcpy(after, in.values, values_len);
     memcpy(out_after, in.out, in.out_len);
     memcpy(in.values, before, values_len);
     memcpy(in.out, out_before, in.out_len);
-    library = call_library(&in);
-    same = memcmp(&tested, &library, sizeof tested) == 0 && memcmp(after, in.values, values_len) == 0
+    want = call(&library, &in);
+    same = memcmp(&got, &want, sizeof got) == 0 && memcmp(after, in.values, values_len) == 0
         && memcmp(out_after, in.out, in.out_len) == 0;
     if (!same)
-        printf("answers differ: %u and the library's %u\n", (unsigned)tested.answer.number, (unsigned)library.answer.number);
+        printf("answers differ: %u and the library's %u\n", (unsigned)got.answer.number, (unsigned)want.answer.number);
     return !same;
 }
 
@@ -468,7 +460,7 @@ static int compare(void)
         bad |= differ(&in);
         if (in.call != CALL_BCC) {
             struct input again = in;
-            uint32_t number = call_library(&again).answer.number;
+            uint32_t number = call(&library, &again).answer.number;
             given[number < 40 ? number : 39]++;
         }
     }
@@ -503,7 +495,7 @@ static double batch(const struct input *in, uint32_t calls, int floor)
         if (floor)
             call_floor(in);
         else
-            call_tested(in);
+            call(&tested, in);
     }
     return (now() - start) / calls;
 }
@@ -527,34 +519,35 @@ static void print_times(int floor)
 #define STACK 65536
 static uint8_t stack[STACK];
 static ucontext_t host, guest;
-static const struct input *stack_input; /* NULL: no call */
+static const struct calls *guest_calls;
+static const struct input *guest_input;
 
-static void on_stack(void)
+static void be_guest(void)
 {
-    if (stack_input != NULL)
-        call_tested(stack_input);
+    call(guest_calls, guest_input);
 }
 
-/* How deep the stack is written to by a row's call, from the frame of the caller on. */
-static size_t depth(const struct input *in, uint8_t paint)
+/* How far the stack is written to by a call and its caller. */
+static size_t depth(const struct calls *c, const struct input *in, uint8_t paint)
 {
     size_t low = 0;
     memset(stack, paint, sizeof stack);
-    stack_input = in;
+    guest_calls = c;
+    guest_input = in;
     getcontext(&guest);
     guest.uc_stack.ss_sp = stack;
     guest.uc_stack.ss_size = sizeof stack;
     guest.uc_link = &host;
-    makecontext(&guest, on_stack, 0);
+    makecontext(&guest, be_guest, 0);
     swapcontext(&host, &guest);
     while (low < sizeof stack && stack[low] == paint)
         low++;
     return sizeof stack - low;
 }
 
-static size_t deepest(const struct input *in)
+static size_t deepest(const struct calls *c, const struct input *in)
 {
-    size_t a = depth(in, 0xA5), b = depth(in, 0x5A);
+    size_t a = depth(c, in, 0xA5), b = depth(c, in, 0x5A);
     return a > b ? a : b;
 }
 
@@ -563,7 +556,8 @@ static void print_stacks(void)
     uint32_t i;
     for (i = 0; i < ROWS; i++) {
         struct input in = prepare(&rows[i]);
-        printf("%s\t%lu\n", rows[i].name, (unsigned long)(deepest(&in) - deepest(NULL)));
+        size_t own = deepest(&tested, &in) - deepest(&nothing, &in);
+        printf("%s\t%lu\n", rows[i].name, (unsigned long)own);
     }
 }
 
@@ -590,7 +584,7 @@ int main(int argc, char **argv)
         return compare();
     } else if (strcmp(mode, "one") == 0 && argc == 3) {
         struct input in = prepare(row_named(argv[2]));
-        call_tested(&in);
+        call(&tested, &in);
     } else if (strcmp(mode, "floor") == 0 && argc == 3) {
         struct input in = prepare(row_named(argv[2]));
         call_floor(&in);
