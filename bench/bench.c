@@ -183,10 +183,13 @@ static uint32_t head_of(uint32_t task, uint32_t number, uint32_t index)
 
 static void seal(uint8_t *t, size_t len, uint8_t adr)
 {
+    size_t i;
     t[0] = 0x02;
     t[1] = (uint8_t)(len - 2);
     t[2] = adr;
-    t[len - 1] = floor_bcc(t, len - 1);
+    t[len - 1] = 0;
+    for (i = 0; i < len - 1; i++)
+        t[len - 1] ^= t[i];
 }
 
 /* The row's call, on the buffers above. */
@@ -337,13 +340,17 @@ static uint32_t rank(uint32_t kind, uint32_t w)
 /* A table that is good but for chance damage, with values to go with it; gives a number to ask for. */
 static uint32_t draw_table(struct input *in, uint8_t *t, uint32_t *v)
 {
-    uint32_t records = draw(7), k, i, number = draw(3) == 0 ? 0 : draw(4000), asked = draw(32768);
-    uint32_t damaged = draw(6) == 0 ? draw(7) : 99, few = draw(40) == 0;
-    if (few)
-        records = 15 + draw(6);
+    uint32_t records = draw(7), step = 5000, k, i, number = draw(3) == 0 ? 0 : draw(4000), asked = draw(32768);
+    uint32_t large = draw(40) == 0, many = draw(200) == 0; /* large arrays: about 4096 places; many records: about 512 */
+    uint32_t damaged;
+    if (large || many) {
+        records = large ? 15 + draw(6) : draw(2) ? draw(512) : 510 + draw(4);
+        step = large ? 1500 : 50;
+    }
+    damaged = draw(6) == 0 ? draw(records + 1) : 9999;
     in->value_count = 0;
     for (k = 0; k < records; k++) {
-        uint32_t kind = draw(4), elements = few ? 190 + draw(65) : draw(2) ? 0 : draw(40), low = draw_limit(kind), high = draw_limit(kind);
+        uint32_t kind = draw(4), elements = large ? 190 + draw(65) : many || draw(2) ? 0 : draw(40), low = draw_limit(kind), high = draw_limit(kind);
         uint32_t head = number << 17 | kind << 15 | (draw(4) != 0) << 14 | elements << 6, places = elements == 0 ? 1 : elements;
         if (rank(kind, low) > rank(kind, high)) {
             uint32_t swap = low;
@@ -369,7 +376,7 @@ static uint32_t draw_table(struct input *in, uint8_t *t, uint32_t *v)
         put32(t + 12 * k, head);
         put32(t + 12 * k + 4, low);
         put32(t + 12 * k + 8, high);
-        number += draw(50) == 0 ? draw(2) : 1 + draw(draw(6) == 0 ? 32000 : 5000);
+        number += draw(large || many ? 5000 : 50) == 0 ? draw(2) : 1 + draw(step > 1500 && draw(6) == 0 ? 32000 : step);
         number %= 32768;
     }
     in->table_len = 12 * records + (draw(80) == 0 ? draw(12) : 0);
@@ -395,7 +402,7 @@ static void draw_telegram(struct input *in, uint8_t *t, uint32_t asked, int repl
     for (i = 0; i < 256; i++)
         t[i] = (uint8_t)draw(256);
     if (pkw != 0) {
-        uint32_t head = head_of(draw(16), asked % 32000, draw(3) == 0 ? draw(256) : draw(4)) ^ (draw(9) == 0 ? draw(65536) << 4 : 0);
+        uint32_t head = head_of(draw(16), asked % 32000, draw(3) == 0 ? draw(256) : draw(4)) ^ (draw(9) == 0 ? draw(1u << 20) << 8 : 0);
         if (kind == 6) /* selector and first mask */
             head = (draw(4) == 0 ? draw(16) : draw(2) ? 2 : 6) << 16 | (draw(8) == 0 ? 0 : 0x400) | draw(65536);
         if (reply)
@@ -427,7 +434,7 @@ static void draw_telegram(struct input *in, uint8_t *t, uint32_t asked, int repl
 
 static int compare(void)
 {
-    static uint8_t t[12 * 32], page[300], room[300];
+    static uint8_t t[12 * (MOST_RECORDS + 2)], page[300], room[300];
     static uint32_t v[MOST_VALUES + 300 + 2000];
     uint32_t given[40] = {0}, i;
     int bad = 0;

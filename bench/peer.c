@@ -488,15 +488,16 @@ static void copy(uint8_t *to, const uint8_t *from, size_t n)
         to[0] = from[0];
 }
 
-/* 18: t is a broadcast of the right length. */
+/* 18: t is a broadcast of the right length. Selector and first mask are looked at together: no bit but 1 and 2 in the one,
+ * bit 1 set, and bit 10 in the other. */
 static int is_void(uss_setup s, const uint8_t *t)
 {
-    uint32_t selector;
+    uint32_t head;
     if (s.pkw == 0 || s.pzd == 0)
         return 1;
-    selector = get16(t + 3);
-    return (selector & ~4u) != 2 || (selector == 6 && s.pzd < 2) || !(get16(t + 5) & get16(t + 3 + 2u * s.pkw) & BIT10)
-        || (s.pkw == 4 && get16(t + 9) != 0);
+    head = get32(t + 3);
+    return (head & (0xFFFB0000u | BIT10)) != (0x00020000u | BIT10) || (head & 0x00040000u && s.pzd < 2)
+        || !(get16(t + 3 + 2u * s.pkw) & BIT10) || (s.pkw == 4 && get16(t + 9) != 0);
 }
 
 /* The answer's number where the opening check passes: 10 to 18, in this order, then 0, 1 or 2. */
