@@ -250,11 +250,13 @@ static uint32_t draw(uint32_t below)
     return (uint32_t)((seed >> 33) % below);
 }
 
-/* `len` bytes that end where memory ends; the same page for the same `which`. */
-static void *at_the_end(unsigned which, size_t len)
+/* A copy of `len` bytes that ends where memory ends, one for each `which`; NULL of none. */
+static void *lent(unsigned which, const void *bytes, size_t len)
 {
     static uint8_t *blocks[4];
     size_t size = 32768;
+    if (len == 0)
+        return NULL;
     if (blocks[which] == NULL) {
         blocks[which] = mmap(NULL, size + 4096, PROT_READ | PROT_WRITE, MAP_PRIVATE | MAP_ANONYMOUS, -1, 0);
         if (blocks[which] == MAP_FAILED || mprotect(blocks[which] + size, 4096, PROT_NONE) != 0) {
@@ -262,33 +264,37 @@ static void *at_the_end(unsigned which, size_t len)
             exit(2);
         }
     }
-    return blocks[which] + size - len;
+    return memcpy(blocks[which] + size - len, bytes, len);
+}
+
+static void keep(void *to, const void *bytes, size_t len)
+{
+    if (len > 0)
+        memcpy(to, bytes, len);
 }
 
 /* Both implementations on copies of the same input: 0 where answer, values and buffer are the same. */
 static int differ(const struct input *given)
 {
-    static uint32_t before[MOST_VALUES + 300], after[MOST_VALUES + 300];
-    static uint8_t out_before[300], out_after[300];
+    static uint32_t after[MOST_VALUES + 300];
+    static uint8_t out_after[300];
     struct input in = *given;
     union output got, want;
     size_t values_len = sizeof *in.values * in.value_count;
     int same;
 
-    in.table = memcpy(at_the_end(0, in.table_len), given->table, in.table_len);
-    in.values = memcpy(at_the_end(1, values_len), given->values, values_len);
-    in.telegram = memcpy(at_the_end(2, in.telegram_len), given->telegram, in.telegram_len);
-    in.out = memcpy(at_the_end(3, in.out_len), given->out, in.out_len);
-    memcpy(before, in.values, values_len);
-    memcpy(out_before, in.out, in.out_len);
+    in.table = lent(0, given->table, in.table_len);
+    in.values = lent(1, given->values, values_len);
+    in.telegram = lent(2, given->telegram, in.telegram_len);
+    in.out = lent(3, given->out, in.out_len);
     got = call(&tested, &in);
-    memcpy(after, in.values, values_len);
-    memcpy(out_after, in.out, in.out_len);
-    memcpy(in.values, before, values_len);
-    memcpy(in.out, out_before, in.out_len);
+    keep(after, in.values, values_len);
+    keep(out_after, in.out, in.out_len);
+    in.values = lent(1, given->values, values_len);
+    in.out = lent(3, given->out, in.out_len);
     want = call(&library, &in);
-    same = memcmp(&got, &want, sizeof got) == 0 && memcmp(after, in.values, values_len) == 0
-        && memcmp(out_after, in.out, in.out_len) == 0;
+    same = memcmp(&got, &want, sizeof got) == 0 && (values_len == 0 || memcmp(after, in.values, values_len) == 0)
+        && (in.out_len == 0 || memcmp(out_after, in.out, in.out_len) == 0);
     if (!same)
         printf("answers differ: %u and the library's %u\n", (unsigned)got.answer.number, (unsigned)want.answer.number);
     return !same;

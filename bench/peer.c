@@ -215,6 +215,12 @@ static size_t telegram_len(uss_setup s)
     return 4 + 2u * (s.pkw + s.pzd);
 }
 
+/* The first process word of a telegram of this length. */
+static inline const uint8_t *process_of(uss_setup s, const uint8_t *t)
+{
+    return t + 3 + 2u * s.pkw;
+}
+
 /* ---- frame: 10 to 14, in this order; 0 where none applies */
 
 static uint32_t frame_fault(const uint8_t *t, size_t n)
@@ -366,7 +372,7 @@ static uint32_t content_fault(const uint8_t *table, const uint8_t *end, uint32_t
         return USS_BAD_TABLE;
     return more == 0 ? 0 : USS_BAD_VALUES;
 wrong:
-    return judge(record, end, last, (size_t)(value - values));
+    return judge(record, end, last, value == values ? 0 : (size_t)(value - values));
 }
 
 /* ---- parameter tasks */
@@ -497,7 +503,7 @@ static int is_void(uss_setup s, const uint8_t *t)
         return 1;
     head = get32(t + 3);
     return (head & (0xFFFB0000u | BIT10)) != (0x00020000u | BIT10) || (head & 0x00040000u && s.pzd < 2)
-        || !(get16(t + 3 + 2u * s.pkw) & BIT10) || (s.pkw == 4 && get16(t + 9) != 0);
+        || !(get16(process_of(s, t)) & BIT10) || (s.pkw == 4 && get16(t + 9) != 0);
 }
 
 /* The answer's number where the opening check passes: 10 to 18, in this order, then 0, 1 or 2. */
@@ -534,7 +540,7 @@ uss_answer peer_slave(uss_setup setup, const uint8_t *table, size_t table_len, u
                       uint8_t *reply, size_t reply_len)
 {
     size_t records = table_len / RECORD;
-    const uint8_t *end = table + table_len, *asked = end, *process;
+    const uint8_t *end = table_len == 0 ? table : table + table_len, *asked = end, *process; /* a table of none may be NULL */
     uint32_t *place = values, number, opening;
     uint64_t control = packed(control_words), sum;
     struct said said = {0, 0};
@@ -553,15 +559,15 @@ uss_answer peer_slave(uss_setup setup, const uint8_t *table, size_t table_len, u
     if (reply_len < USS_BUFFER)
         return answer(USS_SHORT_REPLY, 0, control);
 
-    process = received + 3 + 2u * setup.pkw;
     if (number != USS_REPLIED) {
         if (number > USS_TAKEN)
             return answer(number, 0, control);
         if (number == USS_TAKEN)
-            return answer(USS_TAKEN, 0, command(control, received, process));
+            return answer(USS_TAKEN, 0, command(control, received, process_of(setup, received)));
         copy(reply, received, received_len);
         return answer(USS_MIRRORED, received_len, control);
     }
+    process = process_of(setup, received);
     memcpy(reply, received, 3); /* 02, the same LGE and node */
     q = reply + 3;
     if (setup.pkw != 0) {
@@ -653,7 +659,7 @@ uss_reply peer_read_reply(uss_setup setup, uint8_t task, uint16_t parameter, uin
                           uss_words process, const uint8_t *received, size_t received_len)
 {
     uint32_t fault, id = 0, got = 0;
-    const uint8_t *p = received + 3;
+    const uint8_t *p;
 
     if (!fits(setup))
         return reading(USS_UNFIT_SETUP, 0, 0, 0);
@@ -666,6 +672,7 @@ uss_reply peer_read_reply(uss_setup setup, uint8_t task, uint16_t parameter, uin
         return reading(received[2] > 0x1F ? USS_ADDRESS : USS_OTHER_NODE, 0, 0, 0);
     if (received_len != telegram_len(setup))
         return reading(USS_OTHER_LENGTH, 0, 0, 0);
+    p = received + 3;
     if (setup.pkw != 0) {
         uint32_t head = get32(p), is_double;
         got = setup.pkw == 3 ? get16(p + 4) : get32(p + 4);
