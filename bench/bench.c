@@ -349,15 +349,27 @@ static uint32_t draw_table(struct input *in, uint8_t *t, uint32_t *v)
     uint32_t records = draw(7), step = 5000, k, i, number = draw(3) == 0 ? 0 : draw(4000), asked = draw(32768);
     uint32_t large = draw(40) == 0, many = draw(200) == 0; /* large arrays: about 4096 places; many records: about 512 */
     uint32_t damaged;
+    if (draw(6) == 0)
+        number = 2000 * draw(16) + draw(3); /* also named by base 2000 and up on the page before, which names nothing */
     if (large || many) {
-        records = large ? 15 + draw(6) : draw(2) ? draw(512) : 510 + draw(4);
-        step = large ? 1500 : 50;
+        records = large ? 25 : draw(2) ? draw(512) : 510 + draw(4);
+        step = large ? 1000 : 50;
     }
     damaged = draw(6) == 0 ? draw(records + 1) : 9999;
     in->value_count = 0;
     for (k = 0; k < records; k++) {
         uint32_t kind = draw(4), elements = large ? 190 + draw(65) : many || draw(2) ? 0 : draw(40), low = draw_limit(kind), high = draw_limit(kind);
-        uint32_t head = number << 17 | kind << 15 | (draw(4) != 0) << 14 | elements << 6, places = elements == 0 ? 1 : elements;
+        uint32_t head, places;
+        if (draw(200) == 0)
+            elements = 254 + draw(2);
+        if (k + 1 == records && draw(20) == 0)
+            number = 31999 + draw(2);
+        if (large && in->value_count < 4096 && 4096 - in->value_count < 254) { /* the last: 4095, 4096 or 4097 places */
+            elements = (uint32_t)(4095 + draw(3) - in->value_count);
+            records = k + 1;
+        }
+        head = number << 17 | kind << 15 | (draw(4) != 0) << 14 | elements << 6;
+        places = elements == 0 ? 1 : elements;
         if (rank(kind, low) > rank(kind, high)) {
             uint32_t swap = low;
             low = high;
@@ -382,7 +394,7 @@ static uint32_t draw_table(struct input *in, uint8_t *t, uint32_t *v)
         put32(t + 12 * k, head);
         put32(t + 12 * k + 4, low);
         put32(t + 12 * k + 8, high);
-        number += draw(large || many ? 5000 : 50) == 0 ? draw(2) : 1 + draw(step > 1500 && draw(6) == 0 ? 32000 : step);
+        number += draw(large || many ? 5000 : 50) == 0 ? draw(2) : 1 + draw(step > 1000 && draw(6) == 0 ? 32000 : step);
         number %= 32768;
     }
     in->table_len = 12 * records + (draw(80) == 0 ? draw(12) : 0);
@@ -401,7 +413,7 @@ static void draw_telegram(struct input *in, uint8_t *t, uint32_t asked, int repl
     uint8_t adr = (uint8_t)(in->setup.node & 31);
     if (kind == 7) {
         adr |= 0x40;
-        len = 5 + draw(252);
+        len = draw(20) == 0 ? 256 + draw(2) : 5 + draw(252);
     }
     if (kind == 6)
         adr = (uint8_t)(0x20 | draw(32));
@@ -409,6 +421,8 @@ static void draw_telegram(struct input *in, uint8_t *t, uint32_t asked, int repl
         t[i] = (uint8_t)draw(256);
     if (pkw != 0) {
         uint32_t head = head_of(draw(16), asked % 32000, draw(3) == 0 ? draw(256) : draw(4)) ^ (draw(9) == 0 ? draw(1u << 20) << 8 : 0);
+        if (asked >= 2000 && asked < 32000 && asked % 2000 < 48 && draw(2))
+            head = (head_of(head >> 28, asked - 2000, head & 0xFF) & 0xF800FFFFu) | (2000 + asked % 2000) << 16;
         if (kind == 6) /* selector and first mask */
             head = (draw(4) == 0 ? draw(16) : draw(2) ? 2 : 6) << 16 | (draw(8) == 0 ? 0 : 0x400) | draw(65536);
         if (reply)
@@ -431,7 +445,7 @@ static void draw_telegram(struct input *in, uint8_t *t, uint32_t asked, int repl
         len = draw(260);
     if (draw(25) == 0)
         adr ^= (uint8_t)(1u << draw(8));
-    if (len >= 5 && len <= 256)
+    if (len >= 5 && len <= 257)
         seal(t, len, adr);
     if (draw(12) == 0)
         t[draw(draw(2) ? 4 : 20)] ^= (uint8_t)(1u << draw(8));
@@ -441,7 +455,7 @@ static void draw_telegram(struct input *in, uint8_t *t, uint32_t asked, int repl
 static int compare(void)
 {
     static uint8_t t[12 * (MOST_RECORDS + 2)], page[300], room[300];
-    static uint32_t v[MOST_VALUES + 300 + 2000];
+    static uint32_t v[MOST_VALUES + 300 + 4000];
     uint32_t given[40] = {0}, i;
     int bad = 0;
     for (i = 0; i < ROWS; i++) {

@@ -7,8 +7,8 @@
  *     its maximum does. What fails is judged again, slowly, by `judge`: 21 or 22.
  *   - Each record needs a place. What is left over for arrays is known from the counts, so a record without array asks for
  *     no room.
- *   - The search goes before the pass over the table, by halves, and is only used if the table is good; the pass then stands
- *     at the record's first place when it comes to the record.
+ *   - The search goes by halves, since the numbers of a good table rise. Only a table with arrays needs a sum to find a
+ *     record's first place.
  */
 #include "peer.h"
 
@@ -308,31 +308,32 @@ static inline int one_ok(uint32_t head, uint64_t limits, uint32_t value)
     return value <= max && min <= value;
 }
 
-/* The same of an array with n elements; eight at a time, without a way out between them, can be compiled to vectors. */
-static int array_ok(uint32_t head, uint64_t limits, const uint32_t *values, uint32_t n)
+/* The same of an array with n elements: where its values end, or NULL. Eight values at a time, without a way out between them,
+ * can be compiled to vectors. */
+static const uint32_t *array_end(uint32_t head, uint64_t limits, const uint32_t *values, uint32_t n)
 {
     struct span s;
     if (!limits_ok(head, limits, &s))
-        return 0;
+        return NULL;
     for (; n >= 8; n -= 8, values += 8) {
         uint32_t i, out = 0;
         for (i = 0; i < 8; i++)
             out |= (values[i] ^ s.flip) - s.min > s.range;
         if (out != 0)
-            return 0;
+            return NULL;
     }
     for (; n > 0; n--, values++)
         if ((*values ^ s.flip) - s.min > s.range)
-            return 0;
-    return 1;
+            return NULL;
+    return values;
 }
 
-/* The one pass over table and values: 0, 21 or 22; `*place` is the first place of the record `asked`, where there is one. */
-static uint32_t content_fault(const uint8_t *table, const uint8_t *end, uint32_t *values, size_t value_count,
-                              size_t records, const uint8_t *asked, uint32_t **place)
+/* The one pass over table and values: 0, 21 or 22. The inner loop takes records without array, the outer one the arrays. */
+static uint32_t content_fault(const uint8_t *table, const uint8_t *end, const uint32_t *values, size_t value_count,
+                              size_t records)
 {
     const uint8_t *record = table;
-    uint32_t *value = values;
+    const uint32_t *value = values;
     int64_t last = -1;                   /* the last head, with every bit below its number set */
     size_t more = value_count - records; /* places beyond one for each record */
 
@@ -341,7 +342,8 @@ static uint32_t content_fault(const uint8_t *table, const uint8_t *end, uint32_t
     for (;;) {
         uint32_t head = 0, n;
         uint64_t limits = 0;
-        for (; record != asked; record += RECORD) {
+        const uint32_t *past;
+        for (; record != end; record += RECORD) {
             head = get32(record);
             limits = get64(record + 4);
             if ((int64_t)head <= last)
@@ -353,17 +355,15 @@ static uint32_t content_fault(const uint8_t *table, const uint8_t *end, uint32_t
             value++;
             last = head | BELOW_NUMBER;
         }
-        if (record == asked) {
-            if (record == end)
-                break;
-            *place = value;
-            asked = end;
-            continue;
-        }
+        if (record == end)
+            break;
         n = elements_of(head);
-        if (head & SPARE || n == 0xFF || n - 1 > more || !array_ok(head, limits, value, n))
+        if (head & SPARE || n == 0xFF || n - 1 > more)
             goto wrong;
-        value += n;
+        past = array_end(head, limits, value, n);
+        if (past == NULL)
+            goto wrong;
+        value = past;
         more -= n - 1;
         last = head | BELOW_NUMBER;
         record += RECORD;
@@ -386,7 +386,7 @@ wrong:
 #define TASKS (READS | CHANGES)
 #define BY_INDEX (1u << 6 | 1u << 7 | 1u << 12 | 1u << 8 | 1u << 11)
 
-/* The record with the number that PKE and IND name, or `end`. A table that breaks a rule gives any of its records or none. */
+/* The record of a good table with the number that PKE and IND name, or `end`. */
 static const uint8_t *find(uint32_t pke_ind, const uint8_t *table, size_t records, const uint8_t *end)
 {
     uint32_t base = pke_ind >> 16 & 0x7FF, page = (pke_ind >> 11 & 0xE) | (pke_ind >> 15 & 1);
@@ -400,6 +400,17 @@ static const uint8_t *find(uint32_t pke_ind, const uint8_t *table, size_t record
         records -= half;
     }
     return get32(table) >> 17 == number ? table : end;
+}
+
+/* The first place of a record: the sum of the places before it. */
+static size_t first_place(const uint8_t *table, const uint8_t *record, int no_arrays)
+{
+    size_t place = 0;
+    if (no_arrays)
+        return (size_t)(record - table) / RECORD;
+    for (; table != record; table += RECORD)
+        place += places_of(get32(table));
+    return place;
 }
 
 /* What a reply's area says: PKE, IND and the value. */
@@ -540,8 +551,8 @@ uss_answer peer_slave(uss_setup setup, const uint8_t *table, size_t table_len, u
                       uint8_t *reply, size_t reply_len)
 {
     size_t records = table_len / RECORD;
-    const uint8_t *end = table_len == 0 ? table : table + table_len, *asked = end, *process; /* a table of none may be NULL */
-    uint32_t *place = values, number, opening;
+    const uint8_t *end = table_len == 0 ? table : table + table_len, *process; /* a table of none may be NULL */
+    uint32_t number, opening;
     uint64_t control = packed(control_words), sum;
     struct said said = {0, 0};
     uint8_t *q;
@@ -550,14 +561,12 @@ uss_answer peer_slave(uss_setup setup, const uint8_t *table, size_t table_len, u
         return answer(USS_BAD_SETUP, 0, control);
     if (records > MOST_RECORDS || records * RECORD != table_len)
         return answer(USS_BAD_TABLE, 0, control);
-    number = number_of(setup, received, received_len);
-    if (number == USS_REPLIED && setup.pkw != 0)
-        asked = find(get32(received + 3), table, records, end);
-    opening = content_fault(table, end, values, value_count, records, asked, &place);
+    opening = content_fault(table, end, values, value_count, records);
     if (opening != 0)
         return answer(opening, 0, control);
     if (reply_len < USS_BUFFER)
         return answer(USS_SHORT_REPLY, 0, control);
+    number = number_of(setup, received, received_len);
 
     if (number != USS_REPLIED) {
         if (number > USS_TAKEN)
@@ -571,9 +580,13 @@ uss_answer peer_slave(uss_setup setup, const uint8_t *table, size_t table_len, u
     memcpy(reply, received, 3); /* 02, the same LGE and node */
     q = reply + 3;
     if (setup.pkw != 0) {
-        if (received[3] >> 4 != 0)
-            said = asked == end ? say(USS_ID_ERROR, get32(received + 3), USS_NO_PARAMETER)
-                                : perform(received + 3, setup.pkw, asked, place);
+        if (received[3] >> 4 != 0) {
+            const uint8_t *asked = find(get32(received + 3), table, records, end);
+            if (asked == end)
+                said = say(USS_ID_ERROR, get32(received + 3), USS_NO_PARAMETER);
+            else
+                said = perform(received + 3, setup.pkw, asked, values + first_place(table, asked, value_count == records));
+        }
         q = put_area(q, setup.pkw, said.head, said.value);
     }
     sum = (uint64_t)(said.head ^ said.value) ^ 0x02u ^ received[1] ^ received[2];
