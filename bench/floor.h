@@ -1,0 +1,24 @@
+/* What no call can do without. */
+#ifndef FLOOR_H
+#define FLOOR_H
+
+#include "uss.h"
+
+/* The XOR of all bytes. */
+uint8_t floor_bcc(const uint8_t *bytes, size_t len);
+
+/* Reads every byte of table, values and telegram once. */
+uint32_t floor_slave(const uint8_t *table, size_t table_len, const uint32_t *values, size_t value_count,
+                     const uint8_t *telegram, size_t telegram_len);
+
+/* Calls that do nothing: what is left is the caller's. */
+uss_answer nothing_slave(uss_setup setup, const uint8_t *table, size_t table_len, uint32_t *values, size_t value_count,
+                         uss_words control, uss_words status, const uint8_t *received, size_t received_len,
+                         uint8_t *reply, size_t reply_len);
+uss_built nothing_build_task(uss_setup setup, uint8_t task, uint16_t parameter, uint8_t index, uint32_t value,
+                             uss_words process, uint8_t *out, size_t out_len);
+uss_reply nothing_read_reply(uss_setup setup, uint8_t task, uint16_t parameter, uint8_t index, uint32_t value,
+                             uss_words process, const uint8_t *received, size_t received_len);
+uint8_t nothing_bcc(const uint8_t *bytes, size_t len);
+
+#endif
