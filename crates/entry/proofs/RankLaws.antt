@@ -1,6 +1,6 @@
 -- With the sign bit of its kind flipped, numbers of all four kinds compare as unsigned ones: a comparison in one step, and the
 -- limits with it. Assumes nothing.
-use Prim.Native.Nat.{ℕ, _+_, _-_, _*_, _/_, _%_, _^_, _<_, _≤_}
+use Prim.Native.Nat.{ℕ, _+_, _-_, _/_, _%_, _<_, _≤_}
 use mathlib.Core.Path.{_≡_, refl, sym, ap, _∙_}
 use mathlib.Core.Bool.{Bool, true, false, cond, _&&_}
 use native.Mathlib.Nat.{zero-add}
@@ -13,7 +13,7 @@ use lib.Signed.{leZ}
 use mir.Syntax.{w16, w32}
 use mir.Val.{toZ}
 use mir.ValLaws.{toZ-pos}
-use Rattle.rows.proofs.BoolLaws.{and-left, and-right, and-both}
+use Rattle.rows.proofs.BoolLaws.{and-left, and-right}
 use Rattle.entry.specs.declared.Entry.{Entry}
 use Rattle.entry.specs.Limits.{signedOf, numberOf, atMost, fitsIn, isWithin}
 use Rattle.entry.proofs.SignsLaws.{toZ-high, flipped-low, flipped-high}

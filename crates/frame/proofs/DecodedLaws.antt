@@ -3,7 +3,6 @@ use mathlib.Core.Path.{_≡_, refl, sym, ap, _∙_}
 use mathlib.Core.Bool.{Bool, true, false, false≢true}
 use mathlib.Core.List.{List}
 use Prim.Native.Nat.{ℕ}
-use native.Mathlib.Omega.{arith}
 use Rattle.words.specs.Words.{byteAt}
 use Rattle.frame.specs.Frame.{frameOf, lastOf, isSound}
 use Rattle.frame.specs.Address.{addressOf, kindOf, decodedFrom, decodedOf}

@@ -4,7 +4,7 @@
 --     decodedOf t       the bytes t as a telegram of one of the three kinds, or the first of 10 to 15 that applies
 --     faultNumber f     the document's number of a fault
 use Prim.Native.Nat.{ℕ, _/_, _%_}
-use mathlib.Core.Bool.{Bool, true, false, _&&_}
+use mathlib.Core.Bool.{Bool, _&&_}
 use mathlib.Core.List.{List, [], _∷_}
 use lib.Dec.{leb, eqb}
 use Rattle.rows.specs.Rows.{firstOf}

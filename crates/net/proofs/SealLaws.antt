@@ -1,16 +1,16 @@
 -- A telegram that is built passes the frame check, and its net bytes are those that went in. Assumes nothing.
 use mathlib.Core.Path.{_≡_, refl, sym, ap, _∙_}
 use mathlib.Core.List.{List, [], _∷_, _++_, append-assoc}
-use Prim.Native.Nat.{ℕ, suc, _+_, _-_, _≤_, _<_}
+use Prim.Native.Nat.{ℕ, suc, _+_, _-_, _≤_}
 use native.Mathlib.Numerals.{add-three}
 use native.Mathlib.Omega.{arith}
-use lib.ListN.{length, getD, take, drop, set, length-append, length-drop}
+use lib.ListN.{length, take, drop, set, length-append, length-drop}
 use lib.Seq.{getD-at, take-at, set-split, sets-eq, drop-drop, length-take-le}
 use lib.Bits.{bitXor}
 use Rattle.frame.specs.Bcc.{xorAll}
 use Rattle.frame.specs.Frame.{frameOf, lastOf}
 use Rattle.frame.specs.declared.FrameCheck.the-variants.{Sound}
-use Rattle.frame.proofs.FrameLaws.{Counted, Framed, sound}
+use Rattle.frame.proofs.FrameLaws.{sound}
 use Rattle.net.specs.Telegram.{bodyOf, telegramOf}
 
 pub length-telegram : (adr : ℕ) (net : List ℕ) → length (telegramOf adr net) ≡ length net + 4

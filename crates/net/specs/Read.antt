@@ -6,7 +6,7 @@
 --     Worded w                each of the four is a word
 use Prim.Native.Nat.{ℕ, zero, suc, _+_, _-_, _*_, _%_, _<_}
 use mathlib.Core.List.{List}
-use mathlib.Core.Bool.{Bool, true, false, cond}
+use mathlib.Core.Bool.{Bool, cond}
 use lib.Dec.{ltb}
 use Rattle.words.specs.Words.{wordAt, doubleOf}
 use Rattle.words.specs.declared.Words.{Words}

@@ -4,7 +4,7 @@
 --     sealedLength out n      the telegram's length, or 0
 use Prim.Native.Nat.{ℕ, _+_}
 use mathlib.Core.List.{List, [], _∷_, _++_}
-use mathlib.Core.Bool.{Bool, true, false, _&&_, cond}
+use mathlib.Core.Bool.{Bool, _&&_, cond}
 use lib.Dec.{leb}
 use lib.ListN.{length, take, drop}
 use Rattle.frame.specs.Bcc.{xorAll}

@@ -3,7 +3,7 @@
 ghost use mathlib.Core.Path.{_≡_};
 ghost use mathlib.Core.List.{[], _∷_};
 ghost use Prim.Native.Nat.{_+_, _*_, _-_, _≤_};
-ghost use lib.ListN.{length, take};
+ghost use lib.ListN.{take};
 ghost use lib.Seq.{sets};
 ghost use Rattle.net.specs.Telegram.{sealedOf, sealedLength};
 ghost use Rattle.net.specs.Net.{bytesOf, wordsOf, valueWords, areaWords, normalOf, normalLength};

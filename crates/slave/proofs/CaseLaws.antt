@@ -1,10 +1,10 @@
 -- Each case of the slave call by the tests that lead to it. Assumes nothing.
-use mathlib.Core.Path.{_≡_, refl, sym, ap, _∙_}
-use mathlib.Core.Bool.{Bool, true, false}
-use mathlib.Core.List.{List, _++_}
-use Prim.Native.Nat.{ℕ, _+_, _*_, _≤_, _<_}
+use mathlib.Core.Path.{_≡_, ap}
+use mathlib.Core.Bool.{true, false}
+use mathlib.Core.List.{List}
+use Prim.Native.Nat.{ℕ, _≤_}
 use native.Mathlib.Omega.{arith}
-use lib.ListN.{length, drop}
+use lib.ListN.{length}
 use borrow.Author.Tests.{eq-eqb, ne-eqb}
 use Rattle.words.specs.declared.Words.{Words}
 use Rattle.setup.specs.declared.Setup.{Setup}
@@ -12,8 +12,7 @@ use Rattle.setup.specs.SetupRules.{netBytes}
 use Rattle.setup.proofs.SetupLaws.{Configured, area-few}
 use Rattle.net.specs.declared.Area.{Area}
 use Rattle.net.specs.Read.{processAt}
-use Rattle.net.specs.Telegram.{telegramOf}
-use Rattle.net.specs.Net.{netOf, normalOf, normalLength}
+use Rattle.net.specs.Net.{normalOf, normalLength}
 use Rattle.net.proofs.NetLaws.{telegram-sent}
 use Rattle.frame.specs.declared.Decoded.{Decoded}
 use Rattle.frame.specs.Address.{decodedOf}

@@ -1,10 +1,10 @@
 -- Laws of a parameter task. Assumes nothing.
-use mathlib.Core.Path.{_≡_, refl, sym, ap, _∙_}
-use mathlib.Core.Bool.{Bool, true, false, not, _&&_, _||_, cond, false≢true}
+use mathlib.Core.Path.{_≡_, refl, ap}
+use mathlib.Core.Bool.{Bool, true, false, not, _&&_, _||_, cond}
 use mathlib.Core.List.{List}
 use Prim.Native.Nat.{ℕ, _+_, _*_, _/_, _%_, _≤_, _<_}
 use native.Mathlib.Omega.{arith}
-use borrow.Author.Tests.{eqb-true, eqb-false, leb-false, lt-ltb, le-ltb, not-false}
+use borrow.Author.Tests.{eqb-false, leb-false, lt-ltb, le-ltb, not-false}
 use lib.Dec.{eqb, leb, lit<}
 use lib.ListN.{length}
 use Rattle.rows.proofs.RowsLaws.{row-passed}
@@ -13,7 +13,7 @@ use Rattle.entry.specs.Fields.{countOf}
 use Rattle.entry.specs.Limits.{isWithin}
 use Rattle.net.specs.declared.Area.{Area}
 use Rattle.table.specs.declared.Found.{Found}
-use Rattle.table.specs.declared.Found.the-variants.{At, Nothing}
+use Rattle.table.specs.declared.Found.the-variants.{At}
 use Rattle.table.specs.Records.{findIn, entryAt, entries, firstPlace, countsOf}
 use Rattle.table.proofs.RecordsLaws.{found-below, places-fit, one-each}
 use Rattle.task.specs.declared.Act.{Act}
@@ -24,9 +24,9 @@ use Rattle.task.specs.declared.ParameterError.{ParameterError}
 use Rattle.task.specs.declared.ParameterError.the-variants.{NoTask, NoArray, NoElement, NoParameter, OtherWidth, NoRoom, NotWritable, OutsideLimits}
 use Rattle.task.specs.declared.Verdict.{Verdict}
 use Rattle.task.specs.declared.Verdict.the-variants.{Granted, Denied}
-use Rattle.task.specs.Page.{baseOf, fullNumber, named}
+use Rattle.task.specs.Page.{baseOf, fullNumber}
 use Rattle.task.specs.Verdict.{refusesAct, changesAct, noArray, noElement, otherWidth, noRoom, verdictOf, elementOf}
-use Rattle.slave.specs.Perform.{Performed, readReply, carried, errorArea, emptyArea, doneOf, verdictFor, performOn, performFound, performTask, foundOf, idle}
+use Rattle.slave.specs.Perform.{readReply, carried, errorArea, emptyArea, doneOf, verdictFor, performOn, performFound, performTask, foundOf, idle}
 
 pub read-reply-le : (reply : ℕ) (double : Bool) → reply ≤ 14 → readReply reply double ≤ 15
 read-reply-le reply true h = omega arith

@@ -1,7 +1,7 @@
 -- `frame::check` meets its contract: at each `return` the tests that led there pick the row. Assumes nothing.
 use native.Mathlib.Omega.{arith}
 use Rattle.rows.proofs.RowsLaws.{tests}
-use mathlib.Core.Path.{_≡_, sym, _∙_}
+use mathlib.Core.Path.{sym, _∙_}
 use Rattle.frame.specs.Frame.{frameOf}
 use Rattle.frame.proofs.FrameLaws.{Counted, check-right, check-wrong, last-counted, reckoned}
 use borrow.Author.Needs.{needs}

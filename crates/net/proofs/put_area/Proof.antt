@@ -1,8 +1,6 @@
 -- `net::put_area` meets its contract. Assumes nothing.
-use mathlib.Core.Path.{_≡_, refl, sym, ap, _∙_}
 use mathlib.Core.List.{[], _∷_}
 use native.Mathlib.Omega.{arith}
-use lib.Seq.{sets, set-out}
 use Prim.Native.Nat.{_-_}
 use Rattle.net.specs.Net.{valueWords, areaWords}
 use Rattle.net.proofs.NetLaws.{put-more, area-all}

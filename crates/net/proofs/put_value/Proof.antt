@@ -1,8 +1,7 @@
 -- `net::put_value` meets its contract. Assumes nothing.
-use mathlib.Core.Path.{_≡_, refl, sym, ap, _∙_}
+use mathlib.Core.Path.{_≡_}
 use mathlib.Core.List.{[], _∷_}
 use native.Mathlib.Omega.{arith}
-use lib.Seq.{sets, set-out}
 use Prim.Native.Nat.{_/_, _%_}
 use Rattle.net.proofs.NetLaws.{put-more}
 use borrow.Author.Needs.{needs}

@@ -1,8 +1,8 @@
 -- `net::put_words` meets its contract: word after word. Assumes nothing.
-use mathlib.Core.Path.{_≡_, refl, sym, ap, _∙_}
+use mathlib.Core.Path.{_≡_}
 use mathlib.Core.List.{[], _∷_}
 use native.Mathlib.Omega.{arith}
-use lib.Seq.{sets, set-out}
+use lib.Seq.{sets}
 use Rattle.net.specs.Net.{bytesOf, wordsOf}
 use Rattle.net.proofs.NetLaws.{put-more}
 use borrow.Author.Needs.{needs}

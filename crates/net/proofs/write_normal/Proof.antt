@@ -2,7 +2,7 @@
 use native.Mathlib.Omega.{arith}
 use Prim.Native.Nat.{_+_, _≤_}
 use lib.ListN.{length}
-use mathlib.Core.Path.{_≡_, _∙_, sym}
+use mathlib.Core.Path.{_∙_, sym}
 use Rattle.rows.proofs.RowsLaws.{tests}
 use Rattle.net.specs.Net.{normalOf, normalLength}
 use Rattle.net.proofs.NetLaws.{areas-sealed, normal-sent}

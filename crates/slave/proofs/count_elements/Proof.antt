@@ -1,5 +1,4 @@
 -- `slave::count_elements` meets its contract. Assumes nothing.
-use mathlib.Core.Path.{_≡_, refl, sym, ap, _∙_}
 use borrow.Author.Tests.{eq-eqb, ne-eqb}
 use Rattle.slave.proofs.count_elements.Statement.{statement}
 use Rattle.slave.proofs.count_elements.Tie as tie

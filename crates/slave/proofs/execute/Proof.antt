@@ -1,5 +1,5 @@
 -- `slave::execute` meets its contract, kind by kind. Assumes nothing.
-use mathlib.Core.Path.{_≡_, refl, sym, ap, _∙_}
+use mathlib.Core.Path.{refl, sym, _∙_}
 use native.Mathlib.Omega.{arith}
 use lib.ListN.{length}
 use Rattle.frame.proofs.DecodedLaws.{telegram-framed, normal-bounds}

@@ -1,5 +1,5 @@
 -- `slave::perform_on` meets its contract: the verdict, then the error or the act. Assumes nothing.
-use mathlib.Core.Path.{_≡_, refl, sym, ap, _∙_}
+use mathlib.Core.Path.{_≡_, refl, sym, _∙_}
 use Rattle.slave.specs.Perform.{verdictFor}
 use Rattle.slave.proofs.PerformLaws.{verdict-inside, task-denied, task-granted, granted-place}
 use borrow.Author.Needs.{needs}

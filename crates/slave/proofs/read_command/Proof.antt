@@ -1,5 +1,4 @@
 -- `slave::read_command` meets its contract. Assumes nothing.
-use mathlib.Core.Path.{_≡_, refl, sym, ap, _∙_}
 use borrow.Author.Tests.{ne-eqb}
 use Rattle.slave.specs.Slave.{commandAt}
 use borrow.Author.Needs.{needs}

@@ -1,5 +1,5 @@
 -- `slave::run_act` meets its contract, act by act. Assumes nothing.
-use mathlib.Core.Path.{_≡_, refl, sym, ap, _∙_}
+use mathlib.Core.Path.{refl, _∙_}
 use Rattle.slave.proofs.PerformLaws.{read-reply-le}
 use borrow.Author.Needs.{needs}
 use Rattle.slave.proofs.run_act.Statement.{statement}

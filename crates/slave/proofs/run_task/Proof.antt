@@ -1,5 +1,5 @@
 -- `slave::run_task` meets its contract. Assumes nothing.
-use mathlib.Core.Path.{_≡_, refl, sym, ap, _∙_}
+use mathlib.Core.Path.{refl}
 use borrow.Author.Tests.{ne-eqb}
 use Rattle.slave.specs.Slave.{taskDone}
 use borrow.Author.Needs.{needs}

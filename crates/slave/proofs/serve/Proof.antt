@@ -1,5 +1,5 @@
 -- `slave::serve` meets its contract: the opening check, then the telegram. Assumes nothing.
-use mathlib.Core.Path.{_≡_, refl, sym, ap, _∙_}
+use mathlib.Core.Path.{refl, sym, _∙_}
 use Rattle.slave.proofs.CaseLaws.{called}
 use borrow.Author.Needs.{needs}
 use Rattle.slave.proofs.serve.Statement.{statement}

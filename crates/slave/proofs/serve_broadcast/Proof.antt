@@ -1,5 +1,5 @@
 -- `slave::serve_broadcast` meets its contract. Assumes nothing.
-use mathlib.Core.Path.{_≡_, refl, sym, ap, _∙_}
+use mathlib.Core.Path.{_≡_, sym, _∙_}
 use Rattle.rows.proofs.RowsLaws.{tests}
 use Rattle.broadcast.specs.Broadcast.{isVoid}
 use Rattle.slave.specs.Slave.{firstWord, commandAt, broadcastCase}

@@ -1,5 +1,5 @@
 -- `slave::serve_mirror` meets its contract. Assumes nothing.
-use mathlib.Core.Path.{_≡_, refl, sym, ap, _∙_}
+use mathlib.Core.Path.{ap, _∙_}
 use Rattle.rows.proofs.RowsLaws.{tests}
 use Prim.Native.Nat.{ℕ}
 use borrow.Author.Tests.{eq-eqb}

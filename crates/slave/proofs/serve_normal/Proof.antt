@@ -1,5 +1,5 @@
 -- `slave::serve_normal` meets its contract: 16, 17, then task, control words and reply. Assumes nothing.
-use mathlib.Core.Path.{_≡_, refl, sym, ap, _∙_}
+use mathlib.Core.Path.{refl, _∙_}
 use native.Mathlib.Omega.{arith}
 use lib.ListN.{length}
 use Rattle.setup.proofs.SetupLaws.{configured}

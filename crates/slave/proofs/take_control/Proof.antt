@@ -1,5 +1,4 @@
 -- `slave::take_control` meets its contract. Assumes nothing.
-use mathlib.Core.Path.{_≡_, refl, sym, ap, _∙_}
 use Rattle.rows.proofs.RowsLaws.{tests}
 use Rattle.slave.specs.Slave.{controlTaken}
 use borrow.Author.Needs.{needs}
