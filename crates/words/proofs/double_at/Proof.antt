@@ -12,47 +12,51 @@ use Rattle.words.proofs.join.Reads as join-reads
 use Rattle.words.proofs.join_double.Reads as join-double-reads
 use Rattle.words.proofs.word_at.Reads as word-at-reads
 
--- src/lib.rt:54:29
+-- src/lib.rt:57:17
+sub-if2 : tie.Need-sub-if2
+sub-if2 c = search needs
+
+-- src/lib.rt:58:29
 shared-slice-read-join : tie.Need-shared-slice-read-join
 shared-slice-read-join c = search needs
 
--- src/lib.rt:54:38
+-- src/lib.rt:58:38
 add-join : tie.Need-add-join
 add-join c = search needs
 
--- src/lib.rt:54:36
+-- src/lib.rt:58:36
 shared-slice-read-join-2 : tie.Need-shared-slice-read-join-2
 shared-slice-read-join-2 c = search needs
 
--- src/lib.rt:54:17
+-- src/lib.rt:58:17
 join-requires : tie.Need-join-requires
 join-requires c κs = search needs
 
--- src/lib.rt:55:30
+-- src/lib.rt:59:30
 add-join-2 : tie.Need-add-join-2
 add-join-2 c = search needs
 
--- src/lib.rt:55:28
+-- src/lib.rt:59:28
 shared-slice-read-join-3 : tie.Need-shared-slice-read-join-3
 shared-slice-read-join-3 c = search needs
 
--- src/lib.rt:55:41
+-- src/lib.rt:59:41
 add-join-3 : tie.Need-add-join-3
 add-join-3 c = search needs
 
--- src/lib.rt:55:39
+-- src/lib.rt:59:39
 shared-slice-read-join-4 : tie.Need-shared-slice-read-join-4
 shared-slice-read-join-4 c = search needs
 
--- src/lib.rt:55:17
+-- src/lib.rt:59:17
 join-requires-2 : tie.Need-join-requires-2
 join-requires-2 c κs = search needs
 
--- src/lib.rt:56:13
+-- src/lib.rt:60:13
 join-double-requires : tie.Need-join-double-requires
 join-double-requires c κs = search needs
 
--- src/lib.rt:56:13
+-- src/lib.rt:60:13
 returns : tie.Need-returns
 returns c =
     let b = c .before in
@@ -60,34 +64,35 @@ returns c =
     let e : at + 2 + 1 ≡ at + 3 = omega arith in
     c .join-double .ensures ∙ rw (b .before .before .before .join .ensures, b .join2 .ensures, e)
 
--- src/lib.rt:60:13
+-- src/lib.rt:62:13
 word-at-requires : tie.Need-word-at-requires
 word-at-requires c κs = search needs
 
--- src/lib.rt:61:30
+-- src/lib.rt:63:30
 add-word-at : tie.Need-add-word-at
 add-word-at c = search needs
 
--- src/lib.rt:61:13
+-- src/lib.rt:63:13
 word-at-requires-2 : tie.Need-word-at-requires-2
 word-at-requires-2 c κs = search needs
 
--- src/lib.rt:62:9
+-- src/lib.rt:64:9
 join-double-requires-2 : tie.Need-join-double-requires-2
 join-double-requires-2 c κs = search needs
 
--- src/lib.rt:62:9
+-- src/lib.rt:64:9
 returns-2 : tie.Need-returns-2
 returns-2 c = search needs
 
--- src/lib.rt:48:1
+-- src/lib.rt:52:1
 returns-3 : tie.Need-returns-3
-returns-3 c = sym (double-past (c .before .before .before .args .t .now) _ (c .if3 .left))
+returns-3 c = sym (double-past (c .before .before .args .t .now) _ (c .if1 .left))
 
 pub double-at-spec : {M : Type 1} → statement M
 double-at-spec =
     tie.close
     (tie.spec
+    sub-if2
     shared-slice-read-join
     add-join
     shared-slice-read-join-2
