@@ -53,14 +53,12 @@ pub fn double_at(t: &[u8], at: usize) -> u32
     ensures { λ r. ⌜ r ≡ doubleAt (now (t .entry)) at ⌝ }
 {
     let n = t.len();
-    if 4 <= n {
-        if at <= n - 4 {
+    if at < n {
+        if 4 <= n - at {
             let high = join(t[at], t[at + 1]);
             let low = join(t[at + 2], t[at + 3]);
             return join_double(high, low);
         }
-    }
-    if at < n {
         let high = word_at(t, at);
         let low = word_at(t, at + 2);
         return join_double(high, low);

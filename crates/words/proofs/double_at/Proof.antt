@@ -12,6 +12,9 @@ use Rattle.words.proofs.join.Reads as join-reads
 use Rattle.words.proofs.join_double.Reads as join-double-reads
 use Rattle.words.proofs.word_at.Reads as word-at-reads
 
+sub-if2 : tie.Need-sub-if2
+sub-if2 c = search needs
+
 shared-slice-read-join : tie.Need-shared-slice-read-join
 shared-slice-read-join c = search needs
 
@@ -65,12 +68,13 @@ returns-2 : tie.Need-returns-2
 returns-2 c = search needs
 
 returns-3 : tie.Need-returns-3
-returns-3 c = sym (double-past (c .before .before .before .args .t .now) _ (c .if3 .left))
+returns-3 c = sym (double-past (c .before .before .args .t .now) _ (c .if1 .left))
 
 pub double-at-spec : {M : Type 1} → statement M
 double-at-spec =
     tie.close
     (tie.spec
+    sub-if2
     shared-slice-read-join
     add-join
     shared-slice-read-join-2
