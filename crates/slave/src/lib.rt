@@ -1,7 +1,7 @@
 // The slave (document 01, Slave): one call takes a received page, runs its task on the lent values, and answers.
 ghost use mathlib.Core.Path.{_≡_};
-ghost use mathlib.Core.Bool.{not, _||_};
-ghost use Prim.Native.Nat.{_+_, _*_, _≤_, _<_};
+ghost use mathlib.Core.Bool.{true, not, _||_};
+ghost use Prim.Native.Nat.{_+_, _-_, _*_, _≤_, _<_};
 ghost use lib.ListN.{length, set};
 ghost use Rattle.entry.specs.Fields.{countOf};
 ghost use Rattle.entry.specs.Limits.{isWithin};
@@ -9,6 +9,8 @@ ghost use Rattle.table.specs.Records.{entryAt, countsOf, entries, firstPlace};
 ghost use Rattle.task.specs.Verdict.{changesAct};
 ghost use Rattle.opening.specs.Answers.{openingOf};
 ghost use Rattle.opening.specs.declared.Opening.the-variants.{Passed};
+ghost use Rattle.words.specs.Words.{wordAt};
+ghost use Rattle.net.specs.Read.{valueAt, areaAt, wordTaken, processAt};
 ghost use Rattle.slave.specs.Perform.{replyArea, elementCount, carried, readReply, idle, doneOf, performOn, performOf, Performs};
 ghost use Rattle.slave.specs.Slave.{Leaves, refusedServed, taskDone, controlTaken, commandAt, normalCase, mirrorCase, broadcastCase, executeOf, callOf};
 use broadcast::Command;
@@ -50,6 +52,59 @@ pub struct Served {
     pub answer: Answer,
     pub length: usize,
     pub control: Words,
+}
+
+// ---- the words that a telegram has
+
+// The word at a place that has it.
+fn word_in(t: &[u8], at: usize) -> u16
+    requires { ⌜ at + 2 ≤ length (now t) ⌝ }
+    ensures { λ r. ⌜ r ≡ wordAt (now (t .entry)) at ⌝ }
+{
+    join(t[at], t[at + 1])
+}
+
+// The value of a parameter area of 3 or 4 words.
+fn value_in(t: &[u8], n: u8) -> u32
+    requires { ⌜ (3 ≤ n) × (n ≤ 4) × (n * 2 + 3 ≤ length (now t)) ⌝ }
+    ensures { λ r. ⌜ r ≡ valueAt (now (t .entry)) (n - 2) ⌝ }
+{
+    if n == 3 {
+        return word_in(t, 7) as u32;
+    }
+    join_double(word_in(t, 7), word_in(t, 9))
+}
+
+// A parameter area of 3 or 4 words.
+fn area_in(t: &[u8], n: u8) -> Area
+    requires { ⌜ (3 ≤ n) × (n ≤ 4) × (n * 2 + 3 ≤ length (now t)) ⌝ }
+    ensures { λ r. ⌜ r ≡ areaAt (now (t .entry)) n ⌝ }
+{
+    let pke = word_in(t, 3);
+    let ind = word_in(t, 5);
+    let value = value_in(t, n);
+    Area { pke, ind, value }
+}
+
+// The word at a place where it is taken, else the old one.
+fn take_word(t: &[u8], at: usize, taken: bool, old: u16) -> u16
+    requires { ⌜ (at ≤ 1000000) × (taken ≡ true → at + 2 ≤ length (now t)) ⌝ }
+    ensures { λ r. ⌜ r ≡ wordTaken (now (t .entry)) at taken old ⌝ }
+{
+    if taken { word_in(t, at) } else { old }
+}
+
+// The first pzd of four words, which stand behind an area of n words; the rest are the old ones.
+fn process_in(t: &[u8], n: u8, pzd: u8, old: Words) -> Words
+    requires { ⌜ n * 2 + pzd * 2 + 3 ≤ length (now t) ⌝ }
+    ensures { λ r. ⌜ r ≡ processAt (now (t .entry)) n pzd old ⌝ }
+{
+    let at = (n as usize) * 2 + 3;
+    let w1 = take_word(t, at, 0 < pzd, old.w1);
+    let w2 = take_word(t, at + 2, 1 < pzd, old.w2);
+    let w3 = take_word(t, at + 4, 2 < pzd, old.w3);
+    let w4 = take_word(t, at + 6, 3 < pzd, old.w4);
+    Words { w1, w2, w3, w4 }
 }
 
 // ---- a parameter task
@@ -275,7 +330,7 @@ fn perform(n: u8, table: &[u8], values: &mut [u32], area: Area) -> Area
 
 // The parameter task of a telegram, if PKW is not 0.
 fn run_task(n: u8, table: &[u8], values: &mut [u32], received: &[u8]) -> Area
-    requires { ⌜ (length (now table) ≤ 6144) × (countsOf (entries (now table)) ≤ length (now values)) ⌝ }
+    requires { ⌜ (length (now table) ≤ 6144) × (countsOf (entries (now table)) ≤ length (now values)) × ((n ≡ 0 → ⊥) → (3 ≤ n) × (n ≤ 4) × (n * 2 + 3 ≤ length (now received))) ⌝ }
     ensures { λ r. ⌜ Performs (taskDone n (now (table .entry)) (now (values .entry)) (now (received .entry))) r (now (values .exit)) ⌝ }
 {
     if n == 0 {
@@ -285,7 +340,7 @@ fn run_task(n: u8, table: &[u8], values: &mut [u32], received: &[u8]) -> Area
             value: 0,
         };
     }
-    let area = net::read_area(received, n);
+    let area = area_in(received, n);
     perform(n, table, values, area)
 }
 
@@ -293,12 +348,13 @@ fn run_task(n: u8, table: &[u8], values: &mut [u32], received: &[u8]) -> Area
 
 // The control words after a normal telegram.
 fn take_control(setup: Setup, control: Words, received: &[u8]) -> Words
+    requires { ⌜ setup .pkw * 2 + setup .pzd * 2 + 3 ≤ length (now received) ⌝ }
     ensures { λ r. ⌜ r ≡ controlTaken setup control (now (received .entry)) ⌝ }
 {
     if setup.pzd != 0 {
-        let first = words::word_at(received, (setup.pkw as usize) * 2 + 3);
+        let first = word_in(received, (setup.pkw as usize) * 2 + 3);
         if first / 1024 % 2 == 1 {
-            return net::read_process(received, setup.pkw, setup.pzd, control);
+            return process_in(received, setup.pkw, setup.pzd, control);
         }
     }
     control
@@ -346,7 +402,7 @@ fn serve_normal(
     node: u8,
     n: usize,
 ) -> Served
-    requires { ⌜ openingOf setup (now table) (now values) (length (now reply)) ≡ Passed ⌝ }
+    requires { ⌜ (openingOf setup (now table) (now values) (length (now reply)) ≡ Passed) × (length (now received) ≡ n + 4) ⌝ }
     ensures { λ r. ⌜ Leaves (normalCase node n setup (now (table .entry)) (now (values .entry)) control status (now (received .entry)) (now (reply .entry))) r (now (values .exit)) (now (reply .exit)) ⌝ }
 {
     if node != setup.node {
@@ -383,6 +439,7 @@ fn serve_mirror(setup: Setup, control: Words, received: &[u8], reply: &mut [u8],
 
 // A broadcast with n net bytes: 17, 18, or the control words with the masked bits taken. No reply.
 fn serve_broadcast(setup: Setup, control: Words, received: &[u8], n: usize) -> Served
+    requires { ⌜ length (now received) ≡ n + 4 ⌝ }
     ensures { λ r. ⌜ r ≡ broadcastCase n setup control (now (received .entry)) ⌝ }
 {
     if n != ((setup.pkw as usize) + (setup.pzd as usize)) * 2 {
@@ -393,7 +450,7 @@ fn serve_broadcast(setup: Setup, control: Words, received: &[u8], n: usize) -> S
     if broadcast::is_void(command, setup.pkw, setup.pzd, first) {
         return refuse(Refusal::VoidBroadcast, control);
     }
-    let process = net::read_process(received, setup.pkw, setup.pzd, control);
+    let process = process_in(received, setup.pkw, setup.pzd, control);
     let length = 0;
     Served {
         answer: Answer::Taken,

@@ -48,7 +48,11 @@ sub-serve-broadcast c =
     omega (arith, telegram-framed (a .received .now) _ e refl .counted .long)
 
 serve-broadcast-requires : tie.Need-serve-broadcast-requires
-serve-broadcast-requires c κs = search needs
+serve-broadcast-requires c κs =
+    let d = c .before .before in
+    let a = d .before .before .before .before .before .args in
+    let e = sym (d .decode .ensures) ∙ c .enum-told .given .1 in
+    omega (arith, telegram-framed (a .received .now) _ e refl .counted .long)
 
 enum-known-node-2 : tie.Need-enum-known-node-2
 enum-known-node-2 c = search needs
@@ -62,7 +66,12 @@ sub-n c =
     omega (arith, b .0, b .1, telegram-framed (a .received .now) _ e refl .counted .long)
 
 serve-normal-requires : tie.Need-serve-normal-requires
-serve-normal-requires c κs = search needs
+serve-normal-requires c κs =
+    let d = c .before .before .before .before .before in
+    let a = d .before .before .before .before .before in
+    let e = sym (d .decode .ensures) ∙ c .before .before .before .node2 .given .1 in
+    let b = normal-bounds (a .args .received .now) _ _ _ e in
+    (a .pre, omega (arith, b .0, b .1, telegram-framed (a .args .received .now) _ e refl .counted .long))
 
 returns : tie.Need-returns
 returns c =

@@ -4,6 +4,7 @@ use Rattle.rows.proofs.RowsLaws.{tests}
 use Rattle.broadcast.specs.Broadcast.{isVoid}
 use Rattle.slave.specs.Slave.{firstWord, commandAt, broadcastCase}
 use Rattle.slave.proofs.CaseLaws.{broadcast-void, broadcast-taken}
+use native.Mathlib.Omega.{arith}
 use borrow.Author.Needs.{needs}
 use Rattle.slave.proofs.serve_broadcast.Statement.{statement}
 use Rattle.slave.proofs.serve_broadcast.Tie as tie
@@ -11,7 +12,7 @@ use Rattle.slave.proofs.serve_broadcast.Reads as reads
 use Rattle.slave.proofs.serve_broadcast.Lts as lts
 use Rattle.broadcast.proofs.command_control.Reads as command-control-reads
 use Rattle.broadcast.proofs.is_void.Reads as is-void-reads
-use Rattle.net.proofs.read_process.Reads as read-process-reads
+use Rattle.slave.proofs.process_in.Reads as process-in-reads
 use Rattle.slave.proofs.read_command.Reads as read-command-reads
 use Rattle.slave.proofs.refuse.Reads as refuse-reads
 use Rattle.words.proofs.word_at.Reads as word-at-reads
@@ -64,8 +65,8 @@ returns-2 c =
     let v = c .before .before in
     c .refuse2 .ensures ∙ sym (broadcast-void _ _ _ _ (v .before .before .before .before .if1 .left) (sym (void v) ∙ c .before .if2 .taken))
 
-read-process-requires : tie.Need-read-process-requires
-read-process-requires c κs = search needs
+process-in-requires : tie.Need-process-in-requires
+process-in-requires c κs = omega arith
 
 command-control-requires : tie.Need-command-control-requires
 command-control-requires c κs = search needs
@@ -76,7 +77,7 @@ returns-3 c =
     let v = e .before in
     let a = v .before .before .before .before .before .before .before .before .args in
     sym (broadcast-taken _ (a .setup) (a .control) (a .received .now) (v .before .before .before .before .if1 .left) (sym (void v) ∙ e .if2 .left)
-    ∙ sym (rw (c .command-control .ensures, v .before .before .before .read-command .ensures, c .before .read-process .ensures)))
+    ∙ sym (rw (c .command-control .ensures, v .before .before .before .read-command .ensures, c .before .process-in .ensures)))
 
 pub serve-broadcast-spec : {M : Type 1} → statement M
 serve-broadcast-spec =
@@ -96,6 +97,6 @@ serve-broadcast-spec =
     is-void-requires
     refuse-requires-2
     returns-2
-    read-process-requires
+    process-in-requires
     command-control-requires
     returns-3)

@@ -1,36 +1,37 @@
 -- `slave::take_control` meets its contract. Assumes nothing.
 use Rattle.rows.proofs.RowsLaws.{tests}
 use Rattle.slave.specs.Slave.{controlTaken}
+use native.Mathlib.Omega.{arith}
 use borrow.Author.Needs.{needs}
 use Rattle.slave.proofs.take_control.Statement.{statement}
 use Rattle.slave.proofs.take_control.Tie as tie
 use Rattle.slave.proofs.take_control.Reads as reads
 use Rattle.slave.proofs.take_control.Lts as lts
-use Rattle.net.proofs.read_process.Reads as read-process-reads
-use Rattle.words.proofs.word_at.Reads as word-at-reads
+use Rattle.slave.proofs.process_in.Reads as process-in-reads
+use Rattle.slave.proofs.word_in.Reads as word-in-reads
 
-cast-word-at : tie.Need-cast-word-at
-cast-word-at c = search needs
+cast-word-in : tie.Need-cast-word-in
+cast-word-in c = search needs
 
-mul-word-at : tie.Need-mul-word-at
-mul-word-at c = search needs
+mul-word-in : tie.Need-mul-word-in
+mul-word-in c = search needs
 
-add-word-at : tie.Need-add-word-at
-add-word-at c = search needs
+add-word-in : tie.Need-add-word-in
+add-word-in c = search needs
 
-word-at-requires : tie.Need-word-at-requires
-word-at-requires c κs = search needs
+word-in-requires : tie.Need-word-in-requires
+word-in-requires c κs = omega arith
 
-read-process-requires : tie.Need-read-process-requires
-read-process-requires c κs = search needs
+process-in-requires : tie.Need-process-in-requires
+process-in-requires c κs = omega arith
 
 returns : tie.Need-returns
 unfolding controlTaken
-returns c = search (tests, c .read-process .ensures, ← (c .before .before .word-at .ensures))
+returns c = search (tests, c .process-in .ensures, ← (c .before .before .word-in .ensures))
 
 returns-2 : tie.Need-returns-2
 unfolding controlTaken
-returns-2 c = search (tests, ← (c .before .word-at .ensures))
+returns-2 c = search (tests, ← (c .before .word-in .ensures))
 
 returns-3 : tie.Need-returns-3
 unfolding controlTaken
@@ -40,11 +41,11 @@ pub take-control-spec : {M : Type 1} → statement M
 take-control-spec =
     tie.close
     (tie.spec
-    cast-word-at
-    mul-word-at
-    add-word-at
-    word-at-requires
-    read-process-requires
+    cast-word-in
+    mul-word-in
+    add-word-in
+    word-in-requires
+    process-in-requires
     returns
     returns-2
     returns-3)
