@@ -172,20 +172,55 @@ module _ (e : Entry) (v : ℕ) (a : e .minimum < 4294967296) (b : v < 4294967296
         fits = fits-rank d s (e .maximum) c .0 z;
       }
 
--- as code with the sign bit r finds it
-module _ (e : Entry) (v r : ℕ) (q : r ≡ signOf (e .double) (e .signed)) (a : e .minimum < 4294967296) (b : v < 4294967296) (c : e .maximum < 4294967296) where
-  not-held : (Between e v a b c → ⊥) → false ≡ holdsOf e v
+  not-held : (Between → ⊥) → false ≡ holdsOf e v
   not-held n = go (holdsOf e v) refl
     where
       go : (h : Bool) → holdsOf e v ≡ h → false ≡ holdsOf e v
-      go true h = absurd (n (holds-between e v a b c h))
+      go true h = absurd (n (holds-between h))
       go false h = sym h
 
+  -- by two tests of their ranks, where the maximum fits
+  ranks-held : e .maximum ≤ topOf (e .double)
+      → (leb (rankOf (e .double) (e .signed) (e .minimum)) (rankOf (e .double) (e .signed) v) && leb (rankOf (e .double) (e .signed) v) (rankOf (e .double) (e .signed) (e .maximum))) ≡ holdsOf e v
+  ranks-held f = go (leb l x) (leb x h) refl refl
+    where
+      l : ℕ
+      l = rankOf (e .double) (e .signed) (e .minimum)
+
+      x : ℕ
+      x = rankOf (e .double) (e .signed) v
+
+      h : ℕ
+      h = rankOf (e .double) (e .signed) (e .maximum)
+
+      go : (i j : Bool) → leb l x ≡ i → leb x h ≡ j → (i && j) ≡ holdsOf e v
+      go true true i j = sym (between-holds (record { over = leb-true l x i; under = leb-true x h j; fits = fits-rank (e .double) (e .signed) (e .maximum) c .0 f }))
+      go true false i j = not-held (λ g. let u = g .under in let m = leb-false x h j in omega arith)
+      go false j i k = not-held (λ g. let o = g .over in let m = leb-false l x i in omega arith)
+
+  -- kind by kind
+  pub kind-held : (double signed : Bool) → e .double ≡ double → e .signed ≡ signed → e .maximum ≤ topOf double
+      → (leb (rankOf double signed (e .minimum)) (rankOf double signed v) && leb (rankOf double signed v) (rankOf double signed (e .maximum))) ≡ holdsOf e v
+  kind-held double signed p q f =
+      let g : e .maximum ≤ topOf (e .double) = rw p f in
+      ap (λ (x : Bool). between x signed) (sym p) ∙ ap (λ (x : Bool). between (e .double) x) (sym q) ∙ ranks-held g
+    where
+      between : Bool → Bool → Bool
+      between d s = leb (rankOf d s (e .minimum)) (rankOf d s v) && leb (rankOf d s v) (rankOf d s (e .maximum))
+
+  pub plain-held : (double : Bool) → e .double ≡ double → e .signed ≡ false → e .maximum ≤ topOf double → (leb (e .minimum) v && leb v (e .maximum)) ≡ holdsOf e v
+  plain-held double p q f = rw (xor-zero-r (e .minimum), xor-zero-r v, xor-zero-r (e .maximum)) at (kind-held double false p q f)
+
+  pub top-unfit : topOf (e .double) < e .maximum → false ≡ holdsOf e v
+  top-unfit h = not-held (λ g. let m = fits-rank (e .double) (e .signed) (e .maximum) c .1 (g .fits) in omega arith)
+
+-- as code with the sign bit r finds it
+module _ (e : Entry) (v r : ℕ) (q : r ≡ signOf (e .double) (e .signed)) (a : e .minimum < 4294967296) (b : v < 4294967296) (c : e .maximum < 4294967296) where
   pub rank-under : bitXor v r < bitXor (e .minimum) r → false ≡ holdsOf e v
-  rank-under h = let l = rw q at h in not-held (λ f. let o = f .over in omega arith)
+  rank-under h = let l = rw q at h in not-held e v a b c (λ f. let o = f .over in omega arith)
 
   pub rank-over : bitXor (e .maximum) r < bitXor v r → false ≡ holdsOf e v
-  rank-over h = let l = rw q at h in not-held (λ f. let u = f .under in omega arith)
+  rank-over h = let l = rw q at h in not-held e v a b c (λ f. let u = f .under in omega arith)
 
   module _ (over : bitXor (e .minimum) r ≤ bitXor v r) (under : bitXor v r ≤ bitXor (e .maximum) r) where
     held : bitXor (e .maximum) (signOf (e .double) (e .signed)) ≤ topOf (e .double) → holdsOf e v ≡ true
@@ -205,4 +240,4 @@ module _ (e : Entry) (v r : ℕ) (q : r ≡ signOf (e .double) (e .signed)) (a :
             l ∙ sym (held f)
         go false l =
             let o = leb-false (bitXor (e .maximum) r) 65535 l in
-            l ∙ not-held (λ g. let f : bitXor (e .maximum) r ≤ 65535 = rw (← q, d) at (g .fits) in omega arith)
+            l ∙ not-held e v a b c (λ g. let f : bitXor (e .maximum) r ≤ 65535 = rw (← q, d) at (g .fits) in omega arith)

@@ -5,9 +5,9 @@ ghost use mathlib.Core.Bool.{true, _&&_, cond};
 ghost use Prim.Native.Nat.{_+_, _*_, _≤_};
 ghost use lib.Dec.{leb};
 ghost use lib.ListN.{length};
+ghost use Rattle.words.specs.Words.{doubleAt};
 ghost use Rattle.entry.specs.Fields.{countOf};
 ghost use Rattle.entry.specs.Limits.{fitsIn, atMost, isWithin, entryOk};
-ghost use Rattle.table.specs.Records.{entryAt};
 ghost use Rattle.opening.specs.Rules.{runOk, tableOk, valuesOk};
 ghost use Rattle.opening.specs.Answers.{contentOf, openingOf};
 use entry::Entry;
@@ -34,16 +34,34 @@ pub enum Opening {
 
 // ---- a record
 
-// Record k of a table that has it.
-fn read_record(t: &[u8], k: usize) -> Entry
-    requires { ⌜ 12 * k + 12 ≤ length (now t) ⌝ }
-    ensures { λ r. ⌜ r ≡ entryAt (now (t .entry)) k ⌝ }
+// The three double words of a record.
+struct Doubles {
+    head: u32,
+    minimum: u32,
+    maximum: u32,
+}
+
+// Those of record k, of n; past the last record zeros.
+fn doubles_at(t: &[u8], k: usize, n: usize) -> Doubles
+    requires { ⌜ (length (now t) ≡ 12 * n) × (k ≤ 512) ⌝ }
+    ensures { λ r. ⌜ (r .head ≡ doubleAt (now (t .entry)) (12 * k)) × (r .minimum ≡ doubleAt (now (t .entry)) (12 * k + 4)) × (r .maximum ≡ doubleAt (now (t .entry)) (12 * k + 8)) ⌝ }
 {
-    let at = 12 * k;
-    let head = join_double(join(t[at], t[at + 1]), join(t[at + 2], t[at + 3]));
-    let minimum = join_double(join(t[at + 4], t[at + 5]), join(t[at + 6], t[at + 7]));
-    let maximum = join_double(join(t[at + 8], t[at + 9]), join(t[at + 10], t[at + 11]));
-    entry_of(head, minimum, maximum)
+    if k < n {
+        let at = 12 * k;
+        let head = join_double(join(t[at], t[at + 1]), join(t[at + 2], t[at + 3]));
+        let minimum = join_double(join(t[at + 4], t[at + 5]), join(t[at + 6], t[at + 7]));
+        let maximum = join_double(join(t[at + 8], t[at + 9]), join(t[at + 10], t[at + 11]));
+        return Doubles {
+            head,
+            minimum,
+            maximum,
+        };
+    }
+    Doubles {
+        head: 0,
+        minimum: 0,
+        maximum: 0,
+    }
 }
 
 // The sign bit of a kind, 0 where it has none.
@@ -81,6 +99,34 @@ fn hold_both(a: bool, b: bool) -> bool
     if a { b } else { false }
 }
 
+// Whether b is at least a and at most c.
+fn is_between(a: u32, b: u32, c: u32) -> bool
+    ensures { λ r. ⌜ r ≡ (leb a b && leb b c) ⌝ }
+{
+    if a <= b { b <= c } else { false }
+}
+
+// The same by the four kinds, each compared by itself: what most records need.
+fn holds_one(e: Entry, v: u32) -> bool
+    ensures { λ r. ⌜ r ≡ (fitsIn (e .double) (e .minimum) && fitsIn (e .double) (e .maximum) && atMost (e .double) (e .signed) (e .minimum) (e .maximum) && isWithin e v) ⌝ }
+{
+    let low = e.minimum;
+    let high = e.maximum;
+    if e.double {
+        if e.signed {
+            return is_between(low ^ 2147483648, v ^ 2147483648, high ^ 2147483648);
+        }
+        return is_between(low, v, high);
+    }
+    if 65535 < high {
+        return false;
+    }
+    if e.signed {
+        return is_between(low ^ 32768, v ^ 32768, high ^ 32768);
+    }
+    is_between(low, v, high)
+}
+
 // The same of the value at a place, which must be there.
 fn value_holds(e: Entry, values: &[u32], place: usize) -> bool
     requires { ⌜ place ≤ 1000000 ⌝ }
@@ -89,7 +135,7 @@ fn value_holds(e: Entry, values: &[u32], place: usize) -> bool
     if values.len() <= place {
         return false;
     }
-    holds(e, values[place])
+    holds_one(e, values[place])
 }
 
 // The same of n values from a place on, which must be there. The loop has no other way out, so that it can be compiled to look at
@@ -161,8 +207,9 @@ fn in_order(t: &[u8], values: &[u32], n: usize) -> bool
     let mut least: u16 = 0;
     let mut place: usize = 0;
     let mut k: usize = 0;
+    let mut next = doubles_at(t, 0, n);
     while k < n {
-        let e = read_record(t, k);
+        let e = entry_of(next.head, next.minimum, next.maximum);
         if e.number < least {
             return false;
         }
@@ -173,6 +220,7 @@ fn in_order(t: &[u8], values: &[u32], n: usize) -> bool
         least = e.number + 1;
         place = run.next;
         k += 1;
+        next = doubles_at(t, k, n);
     }
     if 4096 < place {
         return false;
@@ -189,7 +237,8 @@ fn table_ok(t: &[u8], n: usize) -> bool
     let mut place: usize = 0;
     let mut k: usize = 0;
     while k < n {
-        let e = read_record(t, k);
+        let next = doubles_at(t, k, n);
+        let e = entry_of(next.head, next.minimum, next.maximum);
         if e.number < least {
             return false;
         }

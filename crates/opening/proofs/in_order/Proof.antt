@@ -6,11 +6,13 @@ use mathlib.Core.List.{List, [], _∷_}
 use native.Mathlib.Nat.{sub-zero}
 use native.Mathlib.Omega.{arith}
 use borrow.Author.Tests.{not-true, not-false}
+use borrow.Author.Needs.{needs}
 use denote.Ref.{now}
 use Rattle.entry.specs.declared.Entry.{Entry}
 use Rattle.entry.specs.Fields.{countOf}
 use Rattle.entry.proofs.LimitsLaws.{ruled}
-use Rattle.table.specs.Records.{entriesFrom}
+use Rattle.words.specs.Words.{doubleAt}
+use Rattle.table.specs.Records.{entryAt, entriesFrom}
 use Rattle.table.proofs.RecordsLaws.{entries-step, entries-end, count-at-le}
 use Rattle.opening.specs.Rules.{tableOk, valuesOk}
 use Rattle.opening.proofs.PassLaws.{fine-entry, goodFrom, good-all, good-low, good-broken, good-on, good-over, good-end}
@@ -19,48 +21,59 @@ use Rattle.opening.proofs.in_order.Tie as tie
 use Rattle.opening.proofs.in_order.Reads as reads
 use Rattle.opening.proofs.in_order.Lts as lts
 use Rattle.opening.proofs.check_record.Reads as check-record-reads
-use Rattle.opening.proofs.read_record.Reads as read-record-reads
+use Rattle.opening.proofs.doubles_at.Reads as doubles-at-reads
+use Rattle.entry.proofs.entry_of.Reads as entry-of-reads
 
 abbrev Inv-loop : tie.InvT-loop
-Inv-loop t values n least₀ place₀ k₀ least place k =
+Inv-loop t values n least₀ place₀ k₀ next₀ least place k next =
     (k ≤ n) × (place ≤ 255 * k) × ((tableOk t && valuesOk t values) ≡ goodFrom values (entriesFrom t (n - k) k) least place)
+    × (next .head ≡ doubleAt t (12 * k)) × (next .minimum ≡ doubleAt t (12 * k + 4)) × (next .maximum ≡ doubleAt t (12 * k + 8))
 
 abbrev μ-loop : tie.MeasureT-loop
-μ-loop t values n least₀ place₀ k₀ least place k = n - k
+μ-loop t values n least₀ place₀ k₀ next₀ least place k next = n - k
 
--- the record that was read is the next of the pass
-left : (c : tie.After-read-record Inv-loop μ-loop) →
+-- the record that was read is record k
+is-record : (c : tie.After-entry-of Inv-loop μ-loop) → (let l = c .before .before in c .entry-of .result ≡ entryAt (now (l .before .before .before .before .args .t)) (l .loop .k))
+unfolding entryAt
+is-record c = let i = c .before .before .loop .inv in c .entry-of .ensures ∙ rw (i .3, i .4, i .5)
+
+-- and the next of the pass
+left : (c : tie.After-entry-of Inv-loop μ-loop) →
     let l = c .before .before in
-    let a = l .before .before .before .args in
-    (tableOk (now (a .t)) && valuesOk (now (a .t)) (now (a .values))) ≡ goodFrom (now (a .values)) (c .read-record .result ∷ entriesFrom (now (a .t)) (a .n - (l .loop .k + 1)) (l .loop .k + 1)) (l .loop .least) (l .loop .place)
+    let a = l .before .before .before .before .args in
+    (tableOk (now (a .t)) && valuesOk (now (a .t)) (now (a .values))) ≡ goodFrom (now (a .values)) (c .entry-of .result ∷ entriesFrom (now (a .t)) (a .n - (l .loop .k + 1)) (l .loop .k + 1)) (l .loop .least) (l .loop .place)
 left c =
     let l = c .before .before in
-    let a = l .before .before .before .args in
+    let a = l .before .before .before .before .args in
     let step = entries-step (now (a .t)) (a .n) (l .loop .k) (c .before .loop-test .taken) in
-    l .loop .inv .2 ∙ ap (λ (es : List Entry). goodFrom (now (a .values)) es (l .loop .least) (l .loop .place)) step ∙ rw (c .read-record .ensures)
+    l .loop .inv .2 ∙ ap (λ (es : List Entry). goodFrom (now (a .values)) es (l .loop .least) (l .loop .place)) step ∙ rw (is-record c)
 
 -- no record is left
 ended : (c : tie.After-loop Inv-loop μ-loop) →
     let l = c .before in
-    let a = l .before .before .before .args in
+    let a = l .before .before .before .before .args in
     (tableOk (now (a .t)) && valuesOk (now (a .t)) (now (a .values))) ≡ goodFrom (now (a .values)) [] (l .loop .least) (l .loop .place)
 ended c =
     let l = c .before in
-    let a = l .before .before .before .args in
+    let a = l .before .before .before .before .args in
     l .loop .inv .2 ∙ rw (entries-end (now (a .t)) (a .n) (l .loop .k) (c .loop-test .left))
+
+doubles-at-requires : tie.Need-doubles-at-requires Inv-loop μ-loop
+doubles-at-requires c κs = (c .before .before .pre .0, omega arith)
 
 loop-holds : tie.Need-loop-holds Inv-loop μ-loop
 loop-holds c =
-    let a = c .before .before .args in
-    (omega arith, omega arith, rw sub-zero (good-all (now (a .t)) (a .n) (omega arith) (omega arith) (now (a .values))))
+    let a = c .before .before .before .args in
+    let d = c .doubles-at .ensures in
+    (omega arith, omega arith, rw sub-zero (good-all (now (a .t)) (a .n) (omega arith) (omega arith) (now (a .values))), d .0, d .1, d .2)
 
-read-record-requires : tie.Need-read-record-requires Inv-loop μ-loop
-read-record-requires c κs = omega arith
+entry-of-requires : tie.Need-entry-of-requires Inv-loop μ-loop
+entry-of-requires c κs = search needs
 
 returns : tie.Need-returns Inv-loop μ-loop
 returns c =
     let d = c .before .before in
-    let vs = now (d .before .before .before .before .before .args .values) in
+    let vs = now (d .before .before .before .before .before .before .args .values) in
     sym (left d ∙ good-low _ _ _ _ vs (c .if1 .taken))
 
 check-record-requires : tie.Need-check-record-requires Inv-loop μ-loop
@@ -70,41 +83,54 @@ returns-2 : tie.Need-returns-2 Inv-loop μ-loop
 returns-2 c =
     let r = c .before .before in
     let d = r .before .before .before in
-    let vs = now (d .before .before .before .before .before .args .values) in
+    let vs = now (d .before .before .before .before .before .before .args .values) in
     sym (left d ∙ good-broken _ _ _ _ vs _ (r .before .if1 .left) (r .check-record .ensures .0) (not-true _ (c .if2 .taken)))
 
 add-least : tie.Need-add-least Inv-loop μ-loop
 add-least c =
     let r = c .before .before .before in
-    let vs = now (r .before .before .before .before .before .before .before .before .args .values) in
+    let vs = now (r .before .before .before .before .before .before .before .before .before .args .values) in
     let f = ruled _ (fine-entry _ vs _ _ (r .check-record .ensures .0) (not-false _ (c .before .if2 .left))) in
     omega arith
 
 add-k : tie.Need-add-k Inv-loop μ-loop
 add-k c = omega arith
 
+doubles-at-requires-2 : tie.Need-doubles-at-requires-2 Inv-loop μ-loop
+doubles-at-requires-2 c κs =
+    let a = c .before .before .before .before .before .before .before .before .before .before .before .before in
+    (a .pre .0, omega (arith, a .pre .1))
+
 loop-less : tie.Need-loop-less Inv-loop μ-loop
 loop-less c = omega arith
 
 loop-again : tie.Need-loop-again Inv-loop μ-loop
 loop-again c =
-    let r = c .before .before .before in
+    let q = c .before .before in
+    let r = q .before .before in
     let d = r .before .before .before in
     let l = d .before .before in
-    let a = l .before .before .before .args in
-    let f = not-false _ (c .before .if2 .left) in
+    let a = l .before .before .before .before .args in
+    let f = not-false _ (q .if2 .left) in
     let next = r .check-record .ensures .1 f in
-    let e = ap countOf (d .read-record .ensures) in
-    (omega arith, omega (arith, count-at-le (now (a .t)) (l .loop .k)), left d ∙ good-on _ _ _ _ (now (a .values)) _ (r .before .if1 .left) (r .check-record .ensures .0) f ∙ rw (← next))
+    let e = ap countOf (is-record d) in
+    let n = c .doubles-at2 .ensures in (
+      omega arith,
+      omega (arith, count-at-le (now (a .t)) (l .loop .k)),
+      left d ∙ good-on _ _ _ _ (now (a .values)) _ (r .before .if1 .left) (r .check-record .ensures .0) f ∙ rw (← next),
+      n .0,
+      n .1,
+      n .2,
+    )
 
 returns-3 : tie.Need-returns-3 Inv-loop μ-loop
 returns-3 c =
-    let vs = now (c .before .before .before .before .before .args .values) in
+    let vs = now (c .before .before .before .before .before .before .args .values) in
     sym (ended (c .before) ∙ good-over _ _ vs (omega arith))
 
 returns-4 : tie.Need-returns-4 Inv-loop μ-loop
 returns-4 c =
-    let vs = now (c .before .before .before .before .before .args .values) in
+    let vs = now (c .before .before .before .before .before .before .args .values) in
     sym (ended (c .before) ∙ good-end _ _ vs (c .if3 .left))
 
 pub in-order-spec : {M : Type 1} → statement M
@@ -113,13 +139,15 @@ in-order-spec =
     (tie.spec
     Inv-loop
     μ-loop
+    doubles-at-requires
     loop-holds
-    read-record-requires
+    entry-of-requires
     returns
     check-record-requires
     returns-2
     add-least
     add-k
+    doubles-at-requires-2
     loop-less
     loop-again
     returns-3

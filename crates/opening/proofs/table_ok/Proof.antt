@@ -10,7 +10,7 @@ use denote.Ref.{now}
 use Rattle.entry.specs.declared.Entry.{Entry}
 use Rattle.entry.specs.Fields.{countOf}
 use Rattle.entry.proofs.LimitsLaws.{ruled}
-use Rattle.table.specs.Records.{entriesFrom}
+use Rattle.table.specs.Records.{entryAt, entriesFrom}
 use Rattle.table.proofs.RecordsLaws.{entries-step, entries-end, count-at-le}
 use Rattle.opening.specs.Rules.{tableOk}
 use Rattle.opening.proofs.PassLaws.{ruledFrom, rule-all, rule-low, rule-broken, rule-on, rule-end}
@@ -19,8 +19,9 @@ use Rattle.opening.proofs.table_ok.Tie as tie
 use Rattle.opening.proofs.table_ok.Reads as reads
 use Rattle.opening.proofs.table_ok.Lts as lts
 use Rattle.entry.proofs.count_places.Reads as count-places-reads
+use Rattle.entry.proofs.entry_of.Reads as entry-of-reads
 use Rattle.entry.proofs.entry_ok.Reads as entry-ok-reads
-use Rattle.opening.proofs.read_record.Reads as read-record-reads
+use Rattle.opening.proofs.doubles_at.Reads as doubles-at-reads
 
 abbrev Inv-loop : tie.InvT-loop
 Inv-loop t n least₀ place₀ k₀ least place k = (k ≤ n) × (place ≤ 255 * k) × (tableOk t ≡ ruledFrom (entriesFrom t (n - k) k) least place)
@@ -28,23 +29,28 @@ Inv-loop t n least₀ place₀ k₀ least place k = (k ≤ n) × (place ≤ 255 
 abbrev μ-loop : tie.MeasureT-loop
 μ-loop t n least₀ place₀ k₀ least place k = n - k
 
--- the record that was read is the next of the pass
-left : (c : tie.After-read-record Inv-loop μ-loop) →
-    let l = c .before .before in
+-- the record that was read is record k
+is-record : (c : tie.After-entry-of Inv-loop μ-loop) → (let l = c .before .before .before in c .entry-of .result ≡ entryAt (now (l .before .before .args .t)) (l .loop .k))
+unfolding entryAt
+is-record c = let d = c .before .doubles-at .ensures in c .entry-of .ensures ∙ rw (d .0, d .1, d .2)
+
+-- and the next of the pass
+left : (c : tie.After-entry-of Inv-loop μ-loop) →
+    let l = c .before .before .before in
     let a = l .before .before .args in
-    tableOk (now (a .t)) ≡ ruledFrom (c .read-record .result ∷ entriesFrom (now (a .t)) (a .n - (l .loop .k + 1)) (l .loop .k + 1)) (l .loop .least) (l .loop .place)
+    tableOk (now (a .t)) ≡ ruledFrom (c .entry-of .result ∷ entriesFrom (now (a .t)) (a .n - (l .loop .k + 1)) (l .loop .k + 1)) (l .loop .least) (l .loop .place)
 left c =
-    let l = c .before .before in
+    let l = c .before .before .before in
     let a = l .before .before .args in
-    let step = entries-step (now (a .t)) (a .n) (l .loop .k) (c .before .loop-test .taken) in
-    l .loop .inv .2 ∙ ap (λ (es : List Entry). ruledFrom es (l .loop .least) (l .loop .place)) step ∙ rw (c .read-record .ensures)
+    let step = entries-step (now (a .t)) (a .n) (l .loop .k) (c .before .before .loop-test .taken) in
+    l .loop .inv .2 ∙ ap (λ (es : List Entry). ruledFrom es (l .loop .least) (l .loop .place)) step ∙ rw (is-record c)
 
 -- its places are at most 255
 counted : (c : tie.After-count-places Inv-loop μ-loop) → c .count-places .result ≤ 255
 counted c =
     let d = c .before .before .before .before .before .before in
-    let l = d .before .before in
-    let e = c .count-places .ensures ∙ ap countOf (d .read-record .ensures) in
+    let l = d .before .before .before in
+    let e = c .count-places .ensures ∙ ap countOf (is-record d) in
     omega (arith, count-at-le (now (l .before .before .args .t)) (l .loop .k))
 
 loop-holds : tie.Need-loop-holds Inv-loop μ-loop
@@ -52,8 +58,11 @@ loop-holds c =
     let a = c .before .args in
     (omega arith, omega arith, rw sub-zero (rule-all (now (a .t)) (a .n) (omega arith) (omega arith)))
 
-read-record-requires : tie.Need-read-record-requires Inv-loop μ-loop
-read-record-requires c κs = omega arith
+doubles-at-requires : tie.Need-doubles-at-requires Inv-loop μ-loop
+doubles-at-requires c κs = let a = c .before .before .before in (a .pre .0, omega (arith, a .pre .1))
+
+entry-of-requires : tie.Need-entry-of-requires Inv-loop μ-loop
+entry-of-requires c κs = search needs
 
 returns : tie.Need-returns Inv-loop μ-loop
 returns c = sym (left (c .before .before) ∙ rule-low _ _ _ _ (c .if1 .taken))
@@ -106,7 +115,8 @@ table-ok-spec =
     Inv-loop
     μ-loop
     loop-holds
-    read-record-requires
+    doubles-at-requires
+    entry-of-requires
     returns
     entry-ok-requires
     returns-2

@@ -1,13 +1,14 @@
--- `opening::read_record` meets its contract. Assumes nothing.
-use mathlib.Core.Path.{_∙_}
+-- `opening::doubles_at` meets its contract. Assumes nothing.
+use Prim.Native.Nat.{_+_, _*_}
+use mathlib.Core.Path.{_≡_, sym, _∙_}
+use native.Mathlib.Omega.{arith}
 use denote.Ref.{now}
-use Rattle.table.proofs.RecordsLaws.{record-is}
+use Rattle.words.proofs.WordsLaws.{double-past}
 use borrow.Author.Needs.{needs}
-use Rattle.opening.proofs.read_record.Statement.{statement}
-use Rattle.opening.proofs.read_record.Tie as tie
-use Rattle.opening.proofs.read_record.Reads as reads
-use Rattle.opening.proofs.read_record.Lts as lts
-use Rattle.entry.proofs.entry_of.Reads as entry-of-reads
+use Rattle.opening.proofs.doubles_at.Statement.{statement}
+use Rattle.opening.proofs.doubles_at.Tie as tie
+use Rattle.opening.proofs.doubles_at.Reads as reads
+use Rattle.opening.proofs.doubles_at.Lts as lts
 use Rattle.words.proofs.join.Reads as join-reads
 use Rattle.words.proofs.join_double.Reads as join-double-reads
 
@@ -110,13 +111,9 @@ join-requires-6 c κs = search needs
 join-double-requires-3 : tie.Need-join-double-requires-3
 join-double-requires-3 c κs = search needs
 
-entry-of-requires : tie.Need-entry-of-requires
-entry-of-requires c κs = search needs
-
 returns : tie.Need-returns
 returns c =
-    let d = c .before in
-    let i = d .before in
+    let i = c .before in
     let h = i .before .before .before in
     let g = h .before .before .before in
     let f = g .before in
@@ -124,13 +121,24 @@ returns c =
     let q = j .before .before .before in
     let b = q .before in
     let o = b .before .before .before in
-    let a = o .before .before .before .before .args in
-    c .entry-of .ensures
-    ∙ rw (d .join-double3 .ensures, i .join6 .ensures, h .join5 .ensures, g .join-double2 .ensures, f .join4 .ensures, j .join3 .ensures, q .join-double .ensures, b .join2 .ensures, o .join .ensures)
-    (record-is (now (a .t)) (a .k))
+    let k = 12 * o .before .before .before .before .before .args .k in
+    let e : k + 2 + 1 ≡ k + 3 = omega arith in
+    let l : (k + 4 + 1 ≡ k + 5) × (k + 4 + 2 + 1 ≡ k + 7) × (k + 4 + 2 ≡ k + 6) = (omega arith, omega arith, omega arith) in
+    let m : (k + 8 + 1 ≡ k + 9) × (k + 8 + 2 + 1 ≡ k + 11) × (k + 8 + 2 ≡ k + 10) = (omega arith, omega arith, omega arith) in (
+      q .join-double .ensures ∙ rw (b .join2 .ensures, o .join .ensures, e),
+      g .join-double2 .ensures ∙ rw (f .join4 .ensures, j .join3 .ensures, l .0, l .1, l .2),
+      c .join-double3 .ensures ∙ rw (i .join6 .ensures, h .join5 .ensures, m .0, m .1, m .2),
+    )
 
-pub read-record-spec : {M : Type 1} → statement M
-read-record-spec =
+returns-2 : tie.Need-returns-2
+returns-2 c =
+    let a = c .before .before in
+    let k = 12 * a .args .k in
+    let t = now (a .args .t) in
+    (sym (double-past t k (omega arith)), sym (double-past t (k + 4) (omega arith)), sym (double-past t (k + 8) (omega arith)))
+
+pub doubles-at-spec : {M : Type 1} → statement M
+doubles-at-spec =
     tie.close
     (tie.spec
     mul-at
@@ -166,5 +174,5 @@ read-record-spec =
     shared-slice-read-join-12
     join-requires-6
     join-double-requires-3
-    entry-of-requires
-    returns)
+    returns
+    returns-2)
