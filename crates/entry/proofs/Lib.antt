@@ -1,4 +1,3 @@
 -- Laws of one record.
 pub mod SignsLaws
 pub mod LimitsLaws
-pub mod RankLaws

@@ -15,7 +15,7 @@ use mir.Val.{toZ, ofZ, bits, hbits, SFits}
 use mir.ValLaws.{toZ-pos, toZ-ofZ}
 
 -- the upper half
-pub toZ-high : (w : Width) (x : ℕ) → 2 ^ hbits w ≤ x → toZ w x ≡ negsuc (2 ^ bits w - suc x)
+toZ-high : (w : Width) (x : ℕ) → 2 ^ hbits w ≤ x → toZ w x ≡ negsuc (2 ^ bits w - suc x)
 toZ-high w x h = simp (le-ltb _ _ h)
 
 below-minus-one : (n : ℕ) → negsuc 0 -ℤ pos n ≡ negsuc n
@@ -34,10 +34,10 @@ module _ (n : ℕ) (h : n < 2 ^ 31) where
   flip-is w x hx e = toZ-ofZ w32 (negsuc 0 -ℤ toZ w32 n) flip-fits ∙ flip ∙ ap negsuc e ∙ sym (toZ-high w x hx)
 
 -- a word whose sign bit is flipped
-pub flipped-low : (x : ℕ) → x < 32768 → bitXor x 32768 ≡ 32768 + x
+flipped-low : (x : ℕ) → x < 32768 → bitXor x 32768 ≡ 32768 + x
 flipped-low x h = simp (zero-add, xor-zero-r) at (xor-block 15 0 1 x 0 h (lit< tt))
 
-pub flipped-high : (r : ℕ) → r < 32768 → bitXor (32768 + r) 32768 ≡ r
+flipped-high : (r : ℕ) → r < 32768 → bitXor (32768 + r) 32768 ≡ r
 flipped-high r h = simp (zero-add, xor-zero-r) at (xor-block 15 1 1 r 0 h (lit< tt))
 
 -- and less its weight

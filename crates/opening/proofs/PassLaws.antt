@@ -24,6 +24,13 @@ use Rattle.opening.specs.Answers.{contentOf}
 abbrev pub limitsOk : Entry → Bool
 limitsOk e = fitsIn (e .double) (e .minimum) && fitsIn (e .double) (e .maximum) && atMost (e .double) (e .signed) (e .minimum) (e .maximum)
 
+-- limits that do not fit
+pub low-unfit : (a b m w : Bool) → a ≡ false → false ≡ (a && b && m && w)
+low-unfit a b m w h = rw h
+
+pub high-unfit : (a b m w : Bool) → b ≡ false → false ≡ (a && b && m && w)
+high-unfit a b m w h = rw (h, and-false a)
+
 -- the step of the loop over a record's values, and its end
 again : (a l w r : Bool) → (a && (l && (w && r))) ≡ ((a && (l && w)) && (l && r))
 again false l w r = refl

@@ -1,7 +1,7 @@
 // The opening check: set-up, table, values and reply buffer (document 01, answers 20 to 23). One pass over table and values finds
 // whether all is in order; only where it is not, the table is gone through by itself, since its rules come first.
 ghost use mathlib.Core.Path.{_≡_};
-ghost use mathlib.Core.Bool.{true, _&&_, cond};
+ghost use mathlib.Core.Bool.{true, _&&_};
 ghost use Prim.Native.Nat.{_+_, _*_, _≤_};
 ghost use lib.Dec.{leb};
 ghost use lib.ListN.{length};
@@ -14,6 +14,7 @@ use entry::Entry;
 use entry::count_places;
 use entry::entry_of;
 use entry::entry_ok;
+use entry::within;
 use setup::Setup;
 use setup::setup_ok;
 use words::join;
@@ -64,32 +65,20 @@ fn doubles_at(t: &[u8], k: usize, n: usize) -> Doubles
     }
 }
 
-// The sign bit of a kind, 0 where it has none.
-fn sign_of(double: bool, signed: bool) -> u32
-    ensures { λ r. ⌜ r ≡ cond signed (cond double 2147483648 32768) 0 ⌝ }
-{
-    if signed {
-        if double { 2147483648 } else { 32768 }
-    } else {
-        0
-    }
-}
-
-// Whether a record's limits are in order and a value is within them. With the sign bit of its kind flipped, numbers of all four
-// kinds compare as unsigned ones; and a value between the limits shows that these are in order.
+// Whether a record's limits are in order and a value is within them: a value between limits that fit shows these in order.
 fn holds(e: Entry, v: u32) -> bool
     ensures { λ r. ⌜ r ≡ (fitsIn (e .double) (e .minimum) && fitsIn (e .double) (e .maximum) && atMost (e .double) (e .signed) (e .minimum) (e .maximum) && isWithin e v) ⌝ }
 {
-    let sign = sign_of(e.double, e.signed);
-    let x = v ^ sign;
-    let high = e.maximum ^ sign;
-    if x < e.minimum ^ sign {
+    if e.double {
+        return within(e, v);
+    }
+    if 65535 < e.minimum {
         return false;
     }
-    if high < x {
+    if 65535 < e.maximum {
         return false;
     }
-    if e.double { true } else { high <= 65535 }
+    within(e, v)
 }
 
 // Both of two tests.
@@ -97,34 +86,6 @@ fn hold_both(a: bool, b: bool) -> bool
     ensures { λ r. ⌜ r ≡ (a && b) ⌝ }
 {
     if a { b } else { false }
-}
-
-// Whether b is at least a and at most c.
-fn is_between(a: u32, b: u32, c: u32) -> bool
-    ensures { λ r. ⌜ r ≡ (leb a b && leb b c) ⌝ }
-{
-    if a <= b { b <= c } else { false }
-}
-
-// The same by the four kinds, each compared by itself: what most records need.
-fn holds_one(e: Entry, v: u32) -> bool
-    ensures { λ r. ⌜ r ≡ (fitsIn (e .double) (e .minimum) && fitsIn (e .double) (e .maximum) && atMost (e .double) (e .signed) (e .minimum) (e .maximum) && isWithin e v) ⌝ }
-{
-    let low = e.minimum;
-    let high = e.maximum;
-    if e.double {
-        if e.signed {
-            return is_between(low ^ 2147483648, v ^ 2147483648, high ^ 2147483648);
-        }
-        return is_between(low, v, high);
-    }
-    if 65535 < high {
-        return false;
-    }
-    if e.signed {
-        return is_between(low ^ 32768, v ^ 32768, high ^ 32768);
-    }
-    is_between(low, v, high)
 }
 
 // The same of the value at a place, which must be there.
@@ -135,7 +96,7 @@ fn value_holds(e: Entry, values: &[u32], place: usize) -> bool
     if values.len() <= place {
         return false;
     }
-    holds_one(e, values[place])
+    holds(e, values[place])
 }
 
 // The same of n values from a place on, which must be there. The loop has no other way out, so that it can be compiled to look at
