@@ -4,10 +4,13 @@ use mathlib.Core.List.{List, [], _∷_, _++_}
 use Prim.Native.Nat.{ℕ, zero, suc, _+_, _-_, _*_, _/_, _%_, _≤_}
 use native.Mathlib.Omega.{arith}
 use borrow.Author.Tests.{le-leb, le-ltb, ne-eqb}
+use lib.Bits.{bitXor}
 use lib.ListN.{length, take, drop, length-append}
 use lib.Seq.{sets, length-sets, length-take-le, take-all}
+use Rattle.frame.specs.Bcc.{xorAll}
 use Rattle.words.specs.declared.Words.{Words}
 use Rattle.net.proofs.SealLaws.{length-telegram}
+use Rattle.net.proofs.MixLaws.{xor-append, xor-bytes}
 use Rattle.store.proofs.StoreLaws.{sets-append, sets-there, sets-beyond}
 use Rattle.net.specs.declared.Area.{Area}
 use Rattle.net.specs.Telegram.{telegramOf, sealedOf, sealedLength}
@@ -38,17 +41,23 @@ pub area-all : (n : ℕ) (a : Area) → 2 ≤ n → areaWords n a ≡ a .pke ∷
 unfolding areaWords
 area-all n a h = take-all n (a .pke ∷ a .ind ∷ valueWords (n - 2) (a .value)) (omega (arith, length-value (n - 2) (a .value)))
 
--- net bytes written at their place, made a telegram
-pub net-sealed : (out : List ℕ) (adr : ℕ) (net : List ℕ) {out′ : List ℕ} → 256 ≤ length out → 1 ≤ length net → length net ≤ 252
-    → out′ ≡ sets out 3 net
-    → (sealedLength out′ (length net) ≡ length net + 4) × (sealedOf out′ adr (length net) ≡ telegramOf adr net ++ drop (length net + 4) out)
-unfolding sealedOf sealedLength
-net-sealed out adr net {out′} room some fits written =
-    let long : length out′ ≡ length out = ap length written ∙ length-sets out 3 net in
-    let there : take (length net) (drop 3 out′) ≡ net = rw written (sets-there out 3 net (omega arith)) in
-    let beyond : drop (length net + 4) out′ ≡ drop (length net + 4) out = rw written (sets-beyond out 3 net (length net + 4) (omega arith)) in
-    let wide = le-leb 256 (length out′) (omega arith) in
-    rw (wide, le-leb 1 (length net) some, le-leb (length net) 252 fits) (refl, rw (there, beyond))
+-- net bytes written at their place are there, with what stands behind them
+module _ (out : List ℕ) (adr : ℕ) (net : List ℕ) {out′ : List ℕ} (room : 256 ≤ length out) (fits : length net ≤ 252) (written : out′ ≡ sets out 3 net) where
+  pub long : length out′ ≡ length out
+  long = ap length written ∙ length-sets out 3 net
+
+  pub net-there : take (length net) (drop 3 out′) ≡ net
+  net-there = rw written (sets-there out 3 net (omega arith))
+
+  pub net-closed : telegramOf adr (take (length net) (drop 3 out′)) ++ drop (length net + 4) out′ ≡ telegramOf adr net ++ drop (length net + 4) out
+  net-closed =
+      let beyond : drop (length net + 4) out′ ≡ drop (length net + 4) out = rw written (sets-beyond out 3 net (length net + 4) (omega arith)) in
+      rw (net-there, beyond)
+
+  -- made a telegram
+  pub net-sealed : 1 ≤ length net → (sealedLength out′ (length net) ≡ length net + 4) × (sealedOf out′ adr (length net) ≡ telegramOf adr net ++ drop (length net + 4) out)
+  unfolding sealedOf sealedLength
+  net-sealed some = rw (le-leb 256 (length out′) (omega (arith, long)), le-leb 1 (length net) some, le-leb (length net) 252 fits) (refl, net-closed)
 
 module _ (a : Area) (n : ℕ) (w : Words) (pzd : ℕ) (few : pzd ≤ 4) where
   pub length-net : length (netOf a n w pzd) ≡ n * 2 + pzd * 2
@@ -57,17 +66,25 @@ module _ (a : Area) (n : ℕ) (w : Words) (pzd : ℕ) (few : pzd ≤ 4) where
       length-bytes (areaWords n a ++ take pzd (wordsOf w))
       ∙ omega (arith, length-append (areaWords n a) (take pzd (wordsOf w)), length-area n a, length-take-le pzd (wordsOf w) few)
 
-  -- the buffer after both areas were written, made a telegram
-  pub areas-sealed : (out : List ℕ) (adr : ℕ) {out₁ out₂ : List ℕ} → 256 ≤ length out → 1 ≤ n + pzd → n ≤ 4
+  -- the buffer after both areas were written: the net bytes are there
+  pub areas-written : (out : List ℕ) (adr : ℕ) {out₁ out₂ : List ℕ} → 256 ≤ length out → n ≤ 4
       → out₁ ≡ sets out 3 (bytesOf (areaWords n a)) → out₂ ≡ sets out₁ (n * 2 + 3) (bytesOf (take pzd (wordsOf w)))
-      → (sealedLength out₂ (n * 2 + pzd * 2) ≡ length (netOf a n w pzd) + 4)
-      × (sealedOf out₂ adr (n * 2 + pzd * 2) ≡ telegramOf adr (netOf a n w pzd) ++ drop (length (netOf a n w pzd) + 4) out)
+      → (256 ≤ length out₂) × (take (n * 2 + pzd * 2) (drop 3 out₂) ≡ netOf a n w pzd)
+      × (telegramOf adr (take (n * 2 + pzd * 2) (drop 3 out₂)) ++ drop (n * 2 + pzd * 2 + 4) out₂ ≡ telegramOf adr (netOf a n w pzd) ++ drop (length (netOf a n w pzd) + 4) out)
   unfolding netOf
-  areas-sealed out adr {out₁} {out₂} room some short e f =
+  areas-written out adr {out₁} {out₂} room short e f =
       let net = netOf a n w pzd in
       let place : n * 2 + 3 ≡ 3 + length (areaWords n a) * 2 = omega (arith, length-area n a) in
       let written : out₂ ≡ sets out 3 net = put-more out 3 (areaWords n a) (take pzd (wordsOf w)) e (rw place at f) in
-      rw (← length-net) (net-sealed out adr net room (omega (arith, length-net)) (omega (arith, length-net)) written)
+      let fits : length net ≤ 252 = omega (arith, length-net) in
+      (omega (arith, long out adr net room fits written), rw (← length-net) (net-there out adr net room fits written), rw (← length-net) (net-closed out adr net room fits written))
+
+  -- the XOR of the words of both is that of the net bytes, by its two bytes
+  pub areas-mixed : {first second : ℕ} → first ≡ xorAll (areaWords n a) → second ≡ xorAll (take pzd (wordsOf w))
+      → bitXor (bitXor first second / 256) (bitXor first second % 256) ≡ xorAll (netOf a n w pzd)
+  unfolding netOf
+  areas-mixed e f =
+      rw (e, f, ← xor-append (areaWords n a) (take pzd (wordsOf w))) (sym (xor-bytes (areaWords n a ++ take pzd (wordsOf w))))
 
   -- where the telegram can be sent, it is
   pub normal-sent : (out : List ℕ) (adr : ℕ) → 256 ≤ length out → 1 ≤ n + pzd → n ≤ 4

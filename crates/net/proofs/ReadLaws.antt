@@ -8,14 +8,14 @@ use native.Mathlib.Omega.{arith}
 use lib.Dec.{ltb, lit<}
 use lib.ListN.{length, getD, take, length-append, List·getD-append}
 use lib.Seq.{getD-append-add, getD-take, length-take-le}
-use borrow.Author.Tests.{ltb-true}
+use borrow.Author.Tests.{le-leb, le-ltb, ltb-true}
 use Rattle.frame.specs.Bcc.{xorAll}
 use Rattle.words.specs.Words.{wordAt, doubleAt, doubleOf, Bytes}
 use Rattle.words.specs.declared.Words.{Words}
 use Rattle.net.specs.declared.Area.{Area}
 use Rattle.net.specs.Telegram.{bodyOf, telegramOf}
 use Rattle.net.specs.Net.{bytesOf, wordsOf, valueWords, areaWords, netOf}
-use Rattle.net.specs.Read.{valueAt, areaAt, wordTaken, processAt, firstWords, Worded}
+use Rattle.net.specs.Read.{valueAt, areaAt, areaIn, wordTaken, processAt, firstWords, Worded}
 use Rattle.net.proofs.NetLaws.{length-area, area-all}
 
 -- ---- words
@@ -106,6 +106,20 @@ value-last t (suc (suc n)) p h two at =
     let e : suc n * 2 + 7 ≡ p + 2 = omega arith in
     let f : n * 2 + 7 ≡ p = omega arith in
     rw (e, f) (ap (λ (x : ℕ). doubleOf x (wordAt t (p + 2))) (omega (arith, h p, h (p + 1))))
+
+-- a value over one word is that word
+value-one : (t : List ℕ) → valueAt t 1 ≡ wordAt t 7
+unfolding valueAt
+value-one t = omega arith
+
+-- the area of bytes that have it
+pub area-three : (t : List ℕ) → 9 ≤ length t → areaIn t 3 ≡ record { pke = wordAt t 3; ind = wordAt t 5; value = wordAt t 7 }
+unfolding areaIn areaAt
+area-three t long = rw (le-ltb (length t) 9 long, value-one t)
+
+pub area-four : (t : List ℕ) → Bytes t → 11 ≤ length t → areaIn t 4 ≡ record { pke = wordAt t 3; ind = wordAt t 5; value = doubleAt t 7 }
+unfolding areaIn areaAt
+area-four t bytes long = rw (le-ltb (length t) 9 (omega arith), le-leb 11 (length t) long, value-last t 2 7 bytes (omega arith) refl)
 
 module _ (adr : ℕ) (a : Area) (n : ℕ) (w : Words) (pzd : ℕ) where
   words-of : List ℕ

@@ -61,24 +61,22 @@ module _ (out : List ℕ) (adr n : ℕ) (room : 256 ≤ length out) (fits : n �
   body-is =
       ap (λ (k : ℕ). 2 ∷ (k + 2) ∷ adr ∷ take n (drop 3 out)) (length-take-le n (drop 3 out) (simp length-drop (omega arith)))
 
-  -- the check byte as the code reckons it: 02, LGE and ADR, and the XOR of the net bytes
-  abbrev pub reckoned : ℕ
-  reckoned = bitXor 2 (bitXor (n + 2) (bitXor adr (xorAll (take (n + 3 - 3) (drop 3 started)))))
+  -- the check byte of net bytes whose XOR is `sum`: 02, LGE and ADR are mixed in
+  abbrev pub reckoned : ℕ → ℕ
+  reckoned sum = bitXor 2 (bitXor (n + 2) (bitXor adr sum))
 
-  reckoned-is : reckoned ≡ xorAll (bodyOf adr (take n (drop 3 out)))
+  reckoned-is : (sum : ℕ) → sum ≡ xorAll (take n (drop 3 out)) → reckoned sum ≡ xorAll (bodyOf adr (take n (drop 3 out)))
   unfolding xorAll
-  reckoned-is =
-      let e : n + 3 - 3 ≡ n = omega arith in
-      rw (e, started-is) (ap xorAll (sym body-is))
+  reckoned-is sum e = rw e (ap xorAll (sym body-is))
 
-  pub written : set started (n + 3) reckoned ≡ telegramOf adr (take n (drop 3 out)) ++ drop (n + 4) out
-  written =
+  pub written : (sum : ℕ) → sum ≡ xorAll (take n (drop 3 out)) → set started (n + 3) (reckoned sum) ≡ telegramOf adr (take n (drop 3 out)) ++ drop (n + 4) out
+  written sum given =
       let s = xorAll (bodyOf adr (take n (drop 3 out))) in
       let e : set (headed (drop 3 out)) (n + 3) s ≡ headed (take n (drop 3 out)) ++ s ∷ drop (suc n) (drop 3 out) =
       rw add-three (ap headed (set-split (drop 3 out) n s (simp length-drop (omega arith)))) in
       let place : 3 + suc n ≡ n + 4 = omega arith in
       let rest : drop (suc n) (drop 3 out) ≡ drop (n + 4) out = drop-drop (suc n) 3 out ∙ ap (λ (k : ℕ). drop k out) place in
-      ap (λ (b : ℕ). set started (n + 3) b) reckoned-is ∙ ap (λ (l : List ℕ). set l (n + 3) s) started-is ∙ e
+      ap (λ (b : ℕ). set started (n + 3) b) (reckoned-is sum given) ∙ ap (λ (l : List ℕ). set l (n + 3) s) started-is ∙ e
       ∙ ap (λ (l : List ℕ). headed (take n (drop 3 out)) ++ s ∷ l) rest
       ∙ ap (λ (l : List ℕ). l ++ s ∷ drop (n + 4) out) (sym body-is)
       ∙ sym (append-assoc (bodyOf adr (take n (drop 3 out))) (s ∷ []) (drop (n + 4) out))

@@ -2,12 +2,16 @@
 --     valueAt t n             the value over n words from place 7 on, high word first; a value has two words at most
 --     areaAt t n              the parameter area of n words
 --     processAt t n pzd old   the first pzd process words, behind an area of n words; the rest are the old ones
+--     areaIn t n              the area where it has 3 or 4 words and all are there, else all 0
+--     processIn t n pzd old   the process words where all are there, else the old ones
 --     firstWords pzd w old    the first pzd of four words; the rest are the old ones
 --     Worded w                each of the four is a word
 use Prim.Native.Nat.{ℕ, zero, suc, _+_, _-_, _*_, _%_, _<_}
-use mathlib.Core.List.{List}
-use mathlib.Core.Bool.{Bool, cond}
-use lib.Dec.{ltb}
+use mathlib.Core.List.{List, [], _∷_}
+use mathlib.Core.Bool.{Bool, true, false, cond}
+use lib.Dec.{ltb, leb, eqb}
+use lib.ListN.{length}
+use Rattle.rows.specs.Rows.{firstOf}
 use Rattle.words.specs.Words.{wordAt, doubleOf}
 use Rattle.words.specs.declared.Words.{Words}
 use Rattle.net.specs.declared.Area.{Area}
@@ -29,6 +33,15 @@ processAt t n pzd old = record {
   w3 = wordTaken t (n * 2 + 3 + 4) (ltb 2 pzd) (old .w3);
   w4 = wordTaken t (n * 2 + 3 + 6) (ltb 3 pzd) (old .w4);
 }
+
+abbrev pub hasArea : List ℕ → ℕ → Bool
+hasArea t n = firstOf ((ltb (length t) 9, false) ∷ (eqb n 3, true) ∷ (eqb n 4, leb 11 (length t)) ∷ []) false
+
+unfoldable pub areaIn : List ℕ → ℕ → Area
+areaIn t n = cond (hasArea t n) (areaAt t n) (record { pke = 0; ind = 0; value = 0 })
+
+unfoldable pub processIn : List ℕ → ℕ → ℕ → Words → Words
+processIn t n pzd old = cond (leb (n * 2 + 3 + pzd * 2) (length t)) (processAt t n pzd old) old
 
 abbrev pub firstWords : ℕ → Words → Words → Words
 firstWords pzd w old = record {

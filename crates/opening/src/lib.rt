@@ -17,8 +17,8 @@ use entry::entry_ok;
 use entry::within;
 use setup::Setup;
 use setup::setup_ok;
-use words::join;
-use words::join_double;
+use table::Record;
+use table::record_of;
 
 // Why the opening check refuses.
 pub enum OpeningFault {
@@ -35,30 +35,15 @@ pub enum Opening {
 
 // ---- a record
 
-// The three double words of a record.
-struct Doubles {
-    head: u32,
-    minimum: u32,
-    maximum: u32,
-}
-
-// Those of record k, of n; past the last record zeros.
-fn doubles_at(t: &[u8], k: usize, n: usize) -> Doubles
+// Record k, of n; past the last record zeros.
+fn record_at(t: &[u8], k: usize, n: usize) -> Record
     requires { ⌜ (length (now t) ≡ 12 * n) × (k ≤ 512) ⌝ }
     ensures { λ r. ⌜ (r .head ≡ doubleAt (now (t .entry)) (12 * k)) × (r .minimum ≡ doubleAt (now (t .entry)) (12 * k + 4)) × (r .maximum ≡ doubleAt (now (t .entry)) (12 * k + 8)) ⌝ }
 {
     if k < n {
-        let at = 12 * k;
-        let head = join_double(join(t[at], t[at + 1]), join(t[at + 2], t[at + 3]));
-        let minimum = join_double(join(t[at + 4], t[at + 5]), join(t[at + 6], t[at + 7]));
-        let maximum = join_double(join(t[at + 8], t[at + 9]), join(t[at + 10], t[at + 11]));
-        return Doubles {
-            head,
-            minimum,
-            maximum,
-        };
+        return record_of(&t[12 * k..12 * k + 12]);
     }
-    Doubles {
+    Record {
         head: 0,
         minimum: 0,
         maximum: 0,
@@ -168,7 +153,7 @@ fn in_order(t: &[u8], values: &[u32], n: usize) -> bool
     let mut least: u16 = 0;
     let mut place: usize = 0;
     let mut k: usize = 0;
-    let mut next = doubles_at(t, 0, n);
+    let mut next = record_at(t, 0, n);
     while k < n {
         let e = entry_of(next.head, next.minimum, next.maximum);
         if e.number < least {
@@ -181,7 +166,7 @@ fn in_order(t: &[u8], values: &[u32], n: usize) -> bool
         least = e.number + 1;
         place = run.next;
         k += 1;
-        next = doubles_at(t, k, n);
+        next = record_at(t, k, n);
     }
     if 4096 < place {
         return false;
@@ -198,7 +183,7 @@ fn table_ok(t: &[u8], n: usize) -> bool
     let mut place: usize = 0;
     let mut k: usize = 0;
     while k < n {
-        let next = doubles_at(t, k, n);
+        let next = record_at(t, k, n);
         let e = entry_of(next.head, next.minimum, next.maximum);
         if e.number < least {
             return false;

@@ -4,17 +4,19 @@ use mathlib.Core.Path.{_≡_, refl, sym, ap, _∙_}
 use mathlib.Core.List.{List, [], _∷_}
 use mathlib.Core.Bool.{Bool, true, false, cond}
 use lib.Dec.{eqb}
+use lib.ListN.{length, take, drop, length-drop}
+use lib.Seq.{getD-take, getD-drop, length-take-le}
 use native.Mathlib.Omega.{arith}
 use native.Mathlib.Numerals.{add-one}
 use native.Mathlib.Nat.{zero-add, add-zero, suc-add}
-use borrow.Author.Tests.{eq-eqb, ne-eqb, eqb-true, eqb-false}
-use Rattle.words.specs.Words.{byteAt, wordOf, doubleOf, doubleAt, Bytes}
+use borrow.Author.Tests.{le-ltb, eq-eqb, ne-eqb, eqb-true, eqb-false}
+use Rattle.words.specs.Words.{byteAt, doubleAt, Bytes}
 use Rattle.entry.specs.declared.Entry.{Entry}
 use Rattle.entry.specs.Fields.{entryOf, countOf}
 use Rattle.entry.proofs.LimitsLaws.{count-le, count-ge}
 use Rattle.table.specs.declared.Found.{Found}
 use Rattle.table.specs.declared.Found.the-variants.{At, Nothing}
-use Rattle.table.specs.Records.{entryAt, entriesFrom, findFrom, countsOf}
+use Rattle.table.specs.Records.{recordOf, entryAt, entriesFrom, findFrom, countsOf}
 
 -- the step of every loop over the records
 pub entries-step : (t : List ℕ) (n k : ℕ) → k < n → entriesFrom t (n - k) k ≡ entryAt t k ∷ entriesFrom t (n - (k + 1)) (k + 1)
@@ -55,29 +57,30 @@ module _ (t : List ℕ) (k number : ℕ) (b : Bytes t) where
       let o = b (12 * k + 1) in
       sym (ne-eqb (doubleAt t (12 * k) / 131072) number (λ q. h (omega arith)))
 
--- a record by its twelve bytes
-pub record-is : (t : List ℕ) (k : ℕ)
-    → entryOf
-    (doubleOf (wordOf (byteAt t (12 * k)) (byteAt t (12 * k + 1))) (wordOf (byteAt t (12 * k + 2)) (byteAt t (12 * k + 3))))
-    (doubleOf (wordOf (byteAt t (12 * k + 4)) (byteAt t (12 * k + 5))) (wordOf (byteAt t (12 * k + 6)) (byteAt t (12 * k + 7))))
-    (doubleOf (wordOf (byteAt t (12 * k + 8)) (byteAt t (12 * k + 9))) (wordOf (byteAt t (12 * k + 10)) (byteAt t (12 * k + 11))))
-    ≡ entryAt t k
-unfolding entryAt
-record-is t k =
-    let a = 12 * k in
-    let e : a + 2 + 1 ≡ a + 3 = omega arith in
-    let f : (a + 4 + 1 ≡ a + 5) × (a + 4 + 2 + 1 ≡ a + 7) × (a + 4 + 2 ≡ a + 6) = (omega arith, omega arith, omega arith) in
-    let g : (a + 8 + 1 ≡ a + 9) × (a + 8 + 2 + 1 ≡ a + 11) × (a + 8 + 2 ≡ a + 10) = (omega arith, omega arith, omega arith) in
-    rw (e, f .0, f .1, f .2, g .0, g .1, g .2)
+-- ---- a record by its twelve bytes
 
--- its places by the lower word of its first 32 bits
-pub count-is : (t : List ℕ) (k : ℕ) → Bytes t → countOf (entryOf (wordOf (byteAt t (12 * k + 2)) (byteAt t (12 * k + 3))) 0 0) ≡ countOf (entryAt t k)
-unfolding countOf entryOf entryAt
-count-is t k b =
-    let e : 12 * k + 2 + 1 ≡ 12 * k + 3 = omega arith in
-    let low = wordOf (byteAt t (12 * k + 2)) (byteAt t (12 * k + 3)) in
-    let f : doubleOf (wordOf (byteAt t (12 * k)) (byteAt t (12 * k + 1))) low / 64 % 256 ≡ low / 64 % 256 = omega arith in
-    rw (e, f)
+-- a byte of a part, and a double word
+byte-part : (t : List ℕ) (m a i j : ℕ) → i < m → j ≡ a + i → byteAt (take m (drop a t)) i ≡ byteAt t j
+byte-part t m a i j h e = getD-take m (drop a t) i 0 h ∙ getD-drop a t i 0 ∙ ap (byteAt t) (sym e)
+
+double-part : (t : List ℕ) (m a i j : ℕ) → i + 4 ≤ m → j ≡ a + i → doubleAt (take m (drop a t)) i ≡ doubleAt t j
+double-part t m a i j h e =
+    rw (byte-part t m a i j (omega arith) e, byte-part t m a (i + 1) (j + 1) (omega arith) (omega arith), byte-part t m a (i + 2) (j + 2) (omega arith) (omega arith), byte-part t m a (i + 2 + 1) (j + 2 + 1) (omega arith) (omega arith))
+
+-- record k is that of its part of the table
+module _ (t : List ℕ) (k m : ℕ) (there : 12 * k + 12 ≤ length t) (twelve : m ≡ 12) where
+  abbrev part : List ℕ
+  part = take m (drop (12 * k) t)
+
+  pub record-part : recordOf part ≡ record { head = doubleAt t (12 * k); minimum = doubleAt t (12 * k + 4); maximum = doubleAt t (12 * k + 8) }
+  unfolding recordOf
+  record-part =
+      let long : 12 ≤ length part = omega (arith, length-take-le m (drop (12 * k) t) (simp length-drop (omega arith))) in
+      rw (le-ltb (length part) 12 long, double-part t m (12 * k) 0 (12 * k) (omega arith) (omega arith), double-part t m (12 * k) 4 (12 * k + 4) (omega arith) refl, double-part t m (12 * k) 8 (12 * k + 8) (omega arith) refl)
+
+  pub entry-part : entryOf (recordOf part .head) (recordOf part .minimum) (recordOf part .maximum) ≡ entryAt t k
+  unfolding entryAt
+  entry-part = rw record-part
 
 pub count-at-le : (t : List ℕ) (k : ℕ) → countOf (entryAt t k) ≤ 255
 unfolding entryAt

@@ -1,5 +1,6 @@
 -- The records of a table of bytes (document 01, Parameter table): whole records of 12 bytes, their numbers, their places. A record
 -- past the table's end reads as zeros (ours).
+--     recordOf bs           the three double words of a record's 12 bytes; all 0 where there are fewer
 --     entryAt t k           record k: 32 bits of fields, minimum, maximum
 --     entriesFrom t n k     n records, from record k on
 --     entries t             all the whole records of a table
@@ -10,12 +11,18 @@ use Prim.Native.Nat.{ℕ, zero, suc, _+_, _*_, _/_}
 use mathlib.Core.List.{List, [], _∷_}
 use mathlib.Core.Bool.{cond}
 use lib.ListN.{length}
-use lib.Dec.{eqb}
+use lib.Dec.{eqb, ltb}
 use Rattle.words.specs.Words.{doubleAt}
 use Rattle.entry.specs.declared.Entry.{Entry}
 use Rattle.entry.specs.Fields.{entryOf, countOf}
+use Rattle.table.specs.declared.Record.{Record}
 use Rattle.table.specs.declared.Found.{Found}
 use Rattle.table.specs.declared.Found.the-variants.{At, Nothing}
+
+unfoldable pub recordOf : List ℕ → Record
+recordOf bs =
+    cond (ltb (length bs) 12) (record { head = 0; minimum = 0; maximum = 0 })
+    (record { head = doubleAt bs 0; minimum = doubleAt bs 4; maximum = doubleAt bs 8 })
 
 unfoldable pub entryAt : List ℕ → ℕ → Entry
 entryAt t k = entryOf (doubleAt t (12 * k)) (doubleAt t (12 * k + 4)) (doubleAt t (12 * k + 8))

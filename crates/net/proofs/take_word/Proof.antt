@@ -4,16 +4,16 @@ use Rattle.net.proofs.take_word.Statement.{statement}
 use Rattle.net.proofs.take_word.Tie as tie
 use Rattle.net.proofs.take_word.Reads as reads
 use Rattle.net.proofs.take_word.Lts as lts
-use Rattle.words.proofs.word_at.Reads as word-at-reads
+use Rattle.net.proofs.word_in.Reads as word-in-reads
 
-word-at-requires : tie.Need-word-at-requires
-word-at-requires c κs = search needs
+word-in-requires : tie.Need-word-in-requires
+word-in-requires c κs = c .before .before .pre .1 (c .if1 .taken)
 
 returns : tie.Need-returns
-returns c = rw (c .before .if1 .taken) (c .word-at .ensures)
+returns c = rw (c .before .if1 .taken) (c .word-in .ensures)
 
 returns-2 : tie.Need-returns-2
 returns-2 c = search needs
 
 pub take-word-spec : {M : Type 1} → statement M
-take-word-spec = tie.close (tie.spec word-at-requires returns returns-2)
+take-word-spec = tie.close (tie.spec word-in-requires returns returns-2)

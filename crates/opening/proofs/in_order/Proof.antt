@@ -21,7 +21,7 @@ use Rattle.opening.proofs.in_order.Tie as tie
 use Rattle.opening.proofs.in_order.Reads as reads
 use Rattle.opening.proofs.in_order.Lts as lts
 use Rattle.opening.proofs.check_record.Reads as check-record-reads
-use Rattle.opening.proofs.doubles_at.Reads as doubles-at-reads
+use Rattle.opening.proofs.record_at.Reads as record-at-reads
 use Rattle.entry.proofs.entry_of.Reads as entry-of-reads
 
 abbrev Inv-loop : tie.InvT-loop
@@ -58,13 +58,13 @@ ended c =
     let a = l .before .before .before .before .args in
     l .loop .inv .2 ∙ rw (entries-end (now (a .t)) (a .n) (l .loop .k) (c .loop-test .left))
 
-doubles-at-requires : tie.Need-doubles-at-requires Inv-loop μ-loop
-doubles-at-requires c κs = (c .before .before .pre .0, omega arith)
+record-at-requires : tie.Need-record-at-requires Inv-loop μ-loop
+record-at-requires c κs = (c .before .before .pre .0, omega arith)
 
 loop-holds : tie.Need-loop-holds Inv-loop μ-loop
 loop-holds c =
     let a = c .before .before .before .args in
-    let d = c .doubles-at .ensures in
+    let d = c .record-at .ensures in
     (omega arith, omega arith, rw sub-zero (good-all (now (a .t)) (a .n) (omega arith) (omega arith) (now (a .values))), d .0, d .1, d .2)
 
 entry-of-requires : tie.Need-entry-of-requires Inv-loop μ-loop
@@ -96,8 +96,8 @@ add-least c =
 add-k : tie.Need-add-k Inv-loop μ-loop
 add-k c = omega arith
 
-doubles-at-requires-2 : tie.Need-doubles-at-requires-2 Inv-loop μ-loop
-doubles-at-requires-2 c κs =
+record-at-requires-2 : tie.Need-record-at-requires-2 Inv-loop μ-loop
+record-at-requires-2 c κs =
     let a = c .before .before .before .before .before .before .before .before .before .before .before .before in
     (a .pre .0, omega (arith, a .pre .1))
 
@@ -114,7 +114,7 @@ loop-again c =
     let f = not-false _ (q .if2 .left) in
     let next = r .check-record .ensures .1 f in
     let e = ap countOf (is-record d) in
-    let n = c .doubles-at2 .ensures in (
+    let n = c .record-at2 .ensures in (
       omega arith,
       omega (arith, count-at-le (now (a .t)) (l .loop .k)),
       left d ∙ good-on _ _ _ _ (now (a .values)) _ (r .before .if1 .left) (r .check-record .ensures .0) f ∙ rw (← next),
@@ -139,7 +139,7 @@ in-order-spec =
     (tie.spec
     Inv-loop
     μ-loop
-    doubles-at-requires
+    record-at-requires
     loop-holds
     entry-of-requires
     returns
@@ -147,7 +147,7 @@ in-order-spec =
     returns-2
     add-least
     add-k
-    doubles-at-requires-2
+    record-at-requires-2
     loop-less
     loop-again
     returns-3

@@ -21,7 +21,7 @@ use Rattle.opening.proofs.table_ok.Lts as lts
 use Rattle.entry.proofs.count_places.Reads as count-places-reads
 use Rattle.entry.proofs.entry_of.Reads as entry-of-reads
 use Rattle.entry.proofs.entry_ok.Reads as entry-ok-reads
-use Rattle.opening.proofs.doubles_at.Reads as doubles-at-reads
+use Rattle.opening.proofs.record_at.Reads as record-at-reads
 
 abbrev Inv-loop : tie.InvT-loop
 Inv-loop t n least₀ place₀ k₀ least place k = (k ≤ n) × (place ≤ 255 * k) × (tableOk t ≡ ruledFrom (entriesFrom t (n - k) k) least place)
@@ -32,7 +32,7 @@ abbrev μ-loop : tie.MeasureT-loop
 -- the record that was read is record k
 is-record : (c : tie.After-entry-of Inv-loop μ-loop) → (let l = c .before .before .before in c .entry-of .result ≡ entryAt (now (l .before .before .args .t)) (l .loop .k))
 unfolding entryAt
-is-record c = let d = c .before .doubles-at .ensures in c .entry-of .ensures ∙ rw (d .0, d .1, d .2)
+is-record c = let d = c .before .record-at .ensures in c .entry-of .ensures ∙ rw (d .0, d .1, d .2)
 
 -- and the next of the pass
 left : (c : tie.After-entry-of Inv-loop μ-loop) →
@@ -58,8 +58,8 @@ loop-holds c =
     let a = c .before .args in
     (omega arith, omega arith, rw sub-zero (rule-all (now (a .t)) (a .n) (omega arith) (omega arith)))
 
-doubles-at-requires : tie.Need-doubles-at-requires Inv-loop μ-loop
-doubles-at-requires c κs = let a = c .before .before .before in (a .pre .0, omega (arith, a .pre .1))
+record-at-requires : tie.Need-record-at-requires Inv-loop μ-loop
+record-at-requires c κs = let a = c .before .before .before in (a .pre .0, omega (arith, a .pre .1))
 
 entry-of-requires : tie.Need-entry-of-requires Inv-loop μ-loop
 entry-of-requires c κs = search needs
@@ -115,7 +115,7 @@ table-ok-spec =
     Inv-loop
     μ-loop
     loop-holds
-    doubles-at-requires
+    record-at-requires
     entry-of-requires
     returns
     entry-ok-requires
