@@ -179,12 +179,12 @@ line-beyond h b m node long void =
     ((h || b && m, 15) ∷ (not b && not node, 16) ∷ (not m && not long, 17) ∷ (b && void, 18) ∷ [])
     (cond b 2 (cond m 1 0))
     (inr (lit< tt), (inr (lit< tt), (inr (lit< tt), (inr (lit< tt), tt))))
-    (taken b m)
+    (taken-not-frame b m)
   where
-    taken : (b m : Bool) → NotFrame (cond b 2 (cond m 1 0))
-    taken true m = inl (lit< tt)
-    taken false true = inl (lit< tt)
-    taken false false = inl (lit< tt)
+    taken-not-frame : (b m : Bool) → NotFrame (cond b 2 (cond m 1 0))
+    taken-not-frame true m = inl (lit< tt)
+    taken-not-frame false true = inl (lit< tt)
+    taken-not-frame false false = inl (lit< tt)
 
 module _ (s : Setup) (t vs : List ℕ) (control status : Words) (rx out : List ℕ) where
   pub beyond-frame : openingOf s t vs (length out) ≡ Passed → Framed rx → PastFrame (callOf s t vs control status rx out)
