@@ -5,7 +5,7 @@
 --     burst-seen          a burst within eight consecutive data bits: refused, whichever bit of a byte goes first
 --     first-hit-seen      the first byte hit: refused
 --     second-hit-seen     LGE hit: refused
---     long-promise     16 bytes received and LGE reading 254: 13
+--     long-promise        16 bytes received and LGE reading 254: 13
 use mathlib.Core.Path.{_≡_, refl, sym, ap, _∙_}
 use mathlib.Core.List.{List, [], _∷_, _++_}
 use mathlib.Core.Logic.{_↔_}
