@@ -5,7 +5,7 @@
 --     burst-seen          a burst within eight consecutive data bits: refused, whichever bit of a byte goes first
 --     first-hit-seen      the first byte hit: refused
 --     second-hit-seen     LGE hit: refused
---     long-promise     16 bytes received and LGE reading 254: 13
+--     long-promise        16 bytes received and LGE reading 254: 13
 use mathlib.Core.Path.{_≡_, refl, sym, ap, _∙_}
 use mathlib.Core.List.{List, [], _∷_, _++_}
 use mathlib.Core.Logic.{_↔_}
@@ -26,7 +26,7 @@ use Rattle.frame.specs.declared.FrameFault.the-variants.{Short, Start, Length, 
 use Rattle.frame.specs.declared.FrameCheck.{FrameCheck}
 use Rattle.frame.specs.declared.FrameCheck.the-variants.{Sound, Broken}
 use Rattle.frame.proofs.XorLaws.{xor-snoc, xor-all-lt, xor-eq, xor-fix, length-zip, getD-zip, xor-zip}
-use Rattle.frame.proofs.FrameLaws.{framed, sound}
+use Rattle.frame.proofs.FrameLaws.{sound-framed, framed-sound}
 use Rattle.claims_damage.specs.Damage.{damaged, Damage, flips, Passes, Refuses, Unseen, Hit, OneByte, bitAt, Order, Burst}
 use Rattle.claims_damage.proofs.Parity.{zero-digits, one-digit, digit-parity, single}
 
@@ -51,13 +51,13 @@ module _ (t f : List ℕ) (d : Damage t f) where
   -- the XOR of what is received is that of the flips
   xor-damaged : xorAll (damaged t f) ≡ xorAll f
   xor-damaged =
-      let p = framed t (d .passes) in
+      let p = sound-framed t (d .passes) in
       xor-zip t f (d .same) ∙ ap (λ (x : ℕ). bitXor x (xorAll f)) (zero-of-check t (omega arith) (p .check))
 
   passing-unseen : Passes (damaged t f) → Unseen f
   passing-unseen h =
-      let p = framed t (d .passes) .counted in
-      let q = framed (damaged t f) h in
+      let p = sound-framed t (d .passes) .counted in
+      let q = sound-framed (damaged t f) h in
       let n = length-zip t f (d .same) in
       let z : xorAll f ≡ 0 = sym xor-damaged ∙ zero-of-check (damaged t f) (omega (arith, q .counted .long)) (q .check) in
       record {
@@ -69,14 +69,14 @@ module _ (t f : List ℕ) (d : Damage t f) where
   kept : (i : ℕ) → byteAt f i ≡ 0 → byteAt (damaged t f) i ≡ byteAt t i
   kept i e = getD-zip t f i (d .same) ∙ ap (λ (x : ℕ). bitXor (byteAt t i) x) e ∙ xor-zero-r (byteAt t i)
 
-  passed : Unseen f → Passes (damaged t f)
-  passed u =
-      let p = framed t (d .passes) .counted in
+  unseen-passes : Unseen f → Passes (damaged t f)
+  unseen-passes u =
+      let p = sound-framed t (d .passes) .counted in
       let n = length-zip t f (d .same) in
       let b0 = kept 0 (u .first) in
       let b1 = kept 1 (u .second) in
       let z : xorAll f ≡ 0 = zero-digits 8 (xorAll f) (xor-all-lt f (d .bytes)) (λ k hk. digit-parity k f ∙ u .even k hk) in
-      ap isSound (sound (damaged t f)
+      ap isSound (framed-sound (damaged t f)
       (record {
         counted = record {
           long = omega (arith, p .long, n);
@@ -89,7 +89,7 @@ module _ (t f : List ℕ) (d : Damage t f) where
       }))
 
 pub exact : (t f : List ℕ) → Damage t f → Passes (damaged t f) ↔ Unseen f
-exact t f d = (passing-unseen t f d, passed t f d)
+exact t f d = (passing-unseen t f d, unseen-passes t f d)
 
 -- ---- what does not pass is refused with 10 to 14
 

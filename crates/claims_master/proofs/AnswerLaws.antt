@@ -10,13 +10,13 @@ use Rattle.rows.proofs.RowsLaws.{row-passed}
 use Rattle.setup.specs.declared.Setup.{Setup}
 use Rattle.entry.specs.Fields.{countOf}
 use Rattle.entry.specs.Limits.{fitsIn, isWithin}
-use Rattle.entry.proofs.LimitsLaws.{ruled, within-fits}
+use Rattle.entry.proofs.LimitsLaws.{ok-ruled, within-fits}
 use Rattle.table.specs.declared.Found.{Found}
 use Rattle.table.specs.declared.Found.the-variants.{At, Nothing as Nowhere}
 use Rattle.table.specs.Records.{entryAt, findIn, firstPlace}
 use Rattle.opening.specs.declared.Opening.the-variants.{Passed}
 use Rattle.opening.specs.Answers.{openingOf}
-use Rattle.opening.proofs.FoundLaws.{Placed, found-placed}
+use Rattle.opening.proofs.FoundLaws.{InTable, found-in-table}
 use Rattle.net.specs.declared.Area.{Area}
 use Rattle.task.specs.declared.Act.{Act}
 use Rattle.task.specs.declared.Act.the-variants.{Nothing, Read, Change, Count, Refuse}
@@ -65,7 +65,7 @@ unfolding fitsIn
 word-fits true x h e = absurd (false≢true (sym e))
 word-fits false x h e = leb-true x 65535 h
 
-found-valued : (n : ℕ) (k : Task) (a : Area) (t vs : List ℕ) (j : ℕ) → Placed t vs j → verdictFor n k a (entryAt t j) ≡ Granted → ((i : ℕ) → getD vs i 0 < 4294967296)
+found-valued : (n : ℕ) (k : Task) (a : Area) (t vs : List ℕ) (j : ℕ) → InTable t vs j → verdictFor n k a (entryAt t j) ≡ Granted → ((i : ℕ) → getD vs i 0 < 4294967296)
     → Valued n (k .act) (entryAt t j .double) (entryAt t j .elements)
     (getD vs (firstPlace t j + elementOf (k .array) (entryAt t j .elements) (a .ind % 256)) 0)
 unfolding countOf
@@ -79,11 +79,11 @@ found-valued n k a t vs j p g small =
       room = granted-room (k .act) (k .width) (k .array) (e .elements) (e .double) (e .writable) inside index n g;
       whole = small (firstPlace t j + i);
       word = word-fits (e .double) (getD vs (firstPlace t j + i) 0) (within-fits e (getD vs (firstPlace t j + i) 0) (p .value i there));
-      few = ruled e (p .ok) .elements-few;
+      few = ok-ruled e (p .ok) .elements-few;
     }
 
 on-answers : (n : ℕ) (k : Task) (a : Area) (t vs : List ℕ) (j : ℕ) → Wide n → RowOf (k .act) (k .width) (k .reply)
-    → valueFits (k .act) (k .width) n (a .value) ≡ true → a .value < 4294967296 → Placed t vs j → ((i : ℕ) → getD vs i 0 < 4294967296)
+    → valueFits (k .act) (k .width) n (a .value) ≡ true → a .value < 4294967296 → InTable t vs j → ((i : ℕ) → getD vs i 0 < 4294967296)
     → Answers n (k .act) (k .reply) a (performOn n k a (entryAt t j) vs (firstPlace t j) .area)
 on-answers n k a t vs j w r v h p small = go (verdictFor n k a (entryAt t j)) refl
   where
@@ -115,11 +115,11 @@ pub task-answers : (s : Setup) (t vs : List ℕ) (room id : ℕ) (a : Area) → 
 task-answers s t vs room id a passed w few v h name small =
     rw (not-idle (taskOf id .act) (taskOf id .width) (s .pkw) (a .value) v) (go (foundOf t a) refl)
   where
-    found : (f : Found) → foundOf t a ≡ f → findIn t (fullNumber (a .pke) (a .ind)) ≡ f
-    found f e = sym (found-named t a name) ∙ e
+    find-is : (f : Found) → foundOf t a ≡ f → findIn t (fullNumber (a .pke) (a .ind)) ≡ f
+    find-is f e = sym (found-named t a name) ∙ e
 
     go : (f : Found) → foundOf t a ≡ f → Answers (s .pkw) (taskOf id .act) (taskOf id .reply) a (performFound (s .pkw) (taskOf id) a t vs f .area)
     go Nowhere e = error-answers (s .pkw) (taskOf id .act) (taskOf id .reply) a NoParameter w
     go (At j) e =
         on-answers (s .pkw) (taskOf id) a t vs j w (task-row id few) v h
-        (found-placed s t vs room (fullNumber (a .pke) (a .ind)) j passed (found (At j) e)) small
+        (found-in-table s t vs room (fullNumber (a .pke) (a .ind)) j passed (find-is (At j) e)) small

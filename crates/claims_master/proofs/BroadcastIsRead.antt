@@ -14,7 +14,7 @@ use Rattle.words.specs.Words.{wordAt}
 use Rattle.words.specs.declared.Words.{Words}
 use Rattle.setup.specs.declared.Setup.{Setup}
 use Rattle.setup.specs.SetupRules.{setupOk, netBytes}
-use Rattle.setup.proofs.SetupLaws.{Configured, configured}
+use Rattle.setup.proofs.SetupLaws.{Configured, ok-configured}
 use Rattle.frame.specs.Address.{decodedOf, kindOf}
 use Rattle.frame.specs.declared.Address.{Address}
 use Rattle.frame.specs.declared.Decoded.the-variants.{Broadcast as BroadcastTelegram}
@@ -132,4 +132,4 @@ pub broadcast-is-read : (s : Setup) (selector mask1 mask2 : ℕ) (process : Word
 unfolding telegramFor expressible
 broadcast-is-read s selector mask1 mask2 process net ok asked m1 m2 g =
     let void = isVoid (commandOf selector mask1 mask2) (s .pkw) (s .pzd) (process .w1) in
-    broadcast-read s selector mask1 mask2 process (configured s ok) (not-true void (and-left (not void) (unusedZero (s .pzd) process) asked)) m1 m2 g
+    broadcast-read s selector mask1 mask2 process (ok-configured s ok) (not-true void (and-left (not void) (unusedZero (s .pzd) process) asked)) m1 m2 g

@@ -14,10 +14,10 @@ use Rattle.frame.specs.Frame.{frameOf}
 use Rattle.frame.specs.declared.FrameCheck.the-variants.{Sound}
 use Rattle.setup.specs.declared.Setup.{Setup}
 use Rattle.setup.specs.SetupRules.{setupOk}
-use Rattle.setup.proofs.SetupLaws.{configured}
+use Rattle.setup.proofs.SetupLaws.{ok-configured}
 use Rattle.net.specs.Net.{netOf}
 use Rattle.net.specs.Telegram.{telegramOf}
-use Rattle.net.proofs.SealLaws.{length-telegram, passes}
+use Rattle.net.proofs.SealLaws.{length-telegram, telegram-passes}
 use Rattle.request.specs.declared.Request.{Request}
 use Rattle.request.specs.declared.Request.the-variants.{Task, Mirror, Broadcast}
 use Rattle.request.specs.Request.{expressible}
@@ -33,8 +33,8 @@ isDone : BuildAnswer → Bool
 isDone Done = true
 isDone (Refused fault) = false
 
-done : BuildOutcome → Bool
-done o = isDone (o .built .answer)
+outcomeDone : BuildOutcome → Bool
+outcomeDone o = isDone (o .built .answer)
 
 -- a build that succeeded: the set-up may be used, the request can be asked, the buffer is long enough
 pub record Buildable (s : Setup) (r : Request) (net out : List ℕ) : Type 0 where
@@ -44,38 +44,38 @@ pub record Buildable (s : Setup) (r : Request) (net out : List ℕ) : Type 0 whe
   pub is : builtOf s r net out ≡ sent (telegramFor s r net) out
 
 pub done-buildable : (s : Setup) (r : Request) (net out : List ℕ) → builtOf s r net out .built .answer ≡ Done → Buildable s r net out
-unfolding builtOf done isDone
+unfolding builtOf outcomeDone isDone
 done-buildable s r net out e =
-    let p1 = row-passed done (not (setupOk s)) (unbuilt BadSetup out) _ refl (ap isDone e) in
-    let p2 = row-passed done (not (expressible s r net)) (unbuilt NotExpressible out) _ refl (p1 .1) in
-    let p3 = row-passed done (ltb (length out) 256) (unbuilt ShortBuffer out) _ refl (p2 .1) in
+    let p1 = row-passed outcomeDone (not (setupOk s)) (unbuilt BadSetup out) _ refl (ap isDone e) in
+    let p2 = row-passed outcomeDone (not (expressible s r net)) (unbuilt NotExpressible out) _ refl (p1 .1) in
+    let p3 = row-passed outcomeDone (ltb (length out) 256) (unbuilt ShortBuffer out) _ refl (p2 .1) in
     record { setup-good = not-false _ (p1 .0); asked = not-false _ (p2 .0); room = ltb-false _ _ (p3 .0); is = rw (p1 .0, p2 .0, p3 .0) }
 
 -- a telegram has a sound frame and at most 256 bytes
-pub record Sendable (t : List ℕ) : Type 0 where
+pub record SoundTelegram (t : List ℕ) : Type 0 where
   pub frame : frameOf t ≡ Sound (length t - 1)
   pub few : length t ≤ 256
 
-telegram-sendable : (adr : ℕ) (net : List ℕ) → 1 ≤ length net → length net ≤ 252 → Sendable (telegramOf adr net)
-telegram-sendable adr net some fits =
+telegram-sound : (adr : ℕ) (net : List ℕ) → 1 ≤ length net → length net ≤ 252 → SoundTelegram (telegramOf adr net)
+telegram-sound adr net some fits =
     let long = length-telegram adr net in
     let last : length net + 3 ≡ length (telegramOf adr net) - 1 = omega arith in
-    record { frame = passes adr net some fits ∙ ap Sound last; few = omega arith }
+    record { frame = telegram-passes adr net some fits ∙ ap Sound last; few = omega arith }
 
-pub request-sendable : (s : Setup) (r : Request) (net : List ℕ) → setupOk s ≡ true → expressible s r net ≡ true → Sendable (telegramFor s r net)
+pub request-sound : (s : Setup) (r : Request) (net : List ℕ) → setupOk s ≡ true → expressible s r net ≡ true → SoundTelegram (telegramFor s r net)
 unfolding telegramFor
-request-sendable s (Task id number index value process) net ok asked =
-    let c = configured s ok in
+request-sound s (Task id number index value process) net ok asked =
+    let c = ok-configured s ok in
     let a = taskArea id number index value in
-    telegram-sendable (s .node) (netOf a (s .pkw) process (s .pzd)) (net-some s c a process) (net-fits s c a process)
-request-sendable s Mirror net ok asked = telegram-sendable (s .node + 64) net (mirror-asked s net asked .0) (mirror-asked s net asked .1)
-request-sendable s (Broadcast selector mask1 mask2 process) net ok asked =
-    let c = configured s ok in
+    telegram-sound (s .node) (netOf a (s .pkw) process (s .pzd)) (net-some s c a process) (net-fits s c a process)
+request-sound s Mirror net ok asked = telegram-sound (s .node + 64) net (mirror-asked s net asked .0) (mirror-asked s net asked .1)
+request-sound s (Broadcast selector mask1 mask2 process) net ok asked =
+    let c = ok-configured s ok in
     let a = commandArea (s .pkw) selector mask1 mask2 in
-    telegram-sendable 32 (netOf a (s .pkw) process (s .pzd)) (net-some s c a process) (net-fits s c a process)
+    telegram-sound 32 (netOf a (s .pkw) process (s .pzd)) (net-some s c a process) (net-fits s c a process)
 
 -- what a telegram at the front of a buffer leaves
-sent-passes : (s : Setup) (r : Request) (net out : List ℕ) → Sendable (telegramFor s r net) → 256 ≤ length out → SoundBuild s r net out (sent (telegramFor s r net) out)
+sent-passes : (s : Setup) (r : Request) (net out : List ℕ) → SoundTelegram (telegramFor s r net) → 256 ≤ length out → SoundBuild s r net out (sent (telegramFor s r net) out)
 sent-passes s r net out f room =
     let t = telegramFor s r net in
     record {
@@ -90,4 +90,4 @@ sent-passes s r net out f room =
 pub built-passes : (s : Setup) (r : Request) (net out : List ℕ) → builtOf s r net out .built .answer ≡ Done → SoundBuild s r net out (builtOf s r net out)
 built-passes s r net out e =
     let b = done-buildable s r net out e in
-    rw (b .is) (sent-passes s r net out (request-sendable s r net (b .setup-good) (b .asked)) (b .room))
+    rw (b .is) (sent-passes s r net out (request-sound s r net (b .setup-good) (b .asked)) (b .room))

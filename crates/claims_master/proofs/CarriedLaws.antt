@@ -15,7 +15,7 @@ use Rattle.task.specs.declared.Width.the-variants.{Either, Word, Double}
 use Rattle.task.specs.Task.{taskOf}
 use Rattle.task.proofs.PageLaws.{nibble-small}
 use Rattle.request.specs.Request.{valueFits, taskFits}
-use Rattle.request.proofs.RequestLaws.{Idle, Asked, task-asked, asked-id}
+use Rattle.request.proofs.RequestLaws.{AllZero, Asked, task-asked, asked-id}
 use Rattle.master.specs.Build.{taskArea}
 
 -- in three words a value of one word
@@ -44,14 +44,14 @@ value-fits n v (inl e) h g =
     rw e f
 value-fits n v (inr e) h g = rw e g
 
-pub record Carried (s : Setup) (id number index value : ℕ) : Type 0 where
+pub record CarriedTask (s : Setup) (id number index value : ℕ) : Type 0 where
   pub id-few : id < 15
   pub numbers : number ≤ 31999
   pub indices : index < 256
   pub heads : Headed (taskArea id number index value)
   pub fits : (s .pkw ≡ 0 → ⊥) → value < 65536 ^ (s .pkw - 2)
 
-pub carried-of : (s : Setup) (id number index value : ℕ) → Configured s → taskFits (s .pkw) id number index value ≡ true → value < 4294967296 → Carried s id number index value
+pub carried-of : (s : Setup) (id number index value : ℕ) → Configured s → taskFits (s .pkw) id number index value ≡ true → value < 4294967296 → CarriedTask s id number index value
 unfolding taskArea
 carried-of s id number index value c h v = go (task-asked (s .pkw) id number index value h)
   where
@@ -61,7 +61,7 @@ carried-of s id number index value c h v = go (task-asked (s .pkw) id number ind
     heads-of : index < 256 → Headed (taskArea id number index value)
     heads-of i = record { pke-word = omega (arith, few); ind-word = omega (arith, nibble-small number) }
 
-    go : ((id ≡ 0) × Idle number index value) ⊎ Asked (s .pkw) id number index value → Carried s id number index value
+    go : ((id ≡ 0) × AllZero number index value) ⊎ Asked (s .pkw) id number index value → CarriedTask s id number index value
     go (inl e) =
         let i : index < 256 = omega (arith, e .1 .index-none) in
         record {

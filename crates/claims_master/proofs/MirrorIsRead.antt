@@ -11,7 +11,7 @@ use Rattle.frame.specs.declared.Address.{Address}
 use Rattle.frame.specs.declared.Decoded.the-variants.{Mirror as MirrorTelegram}
 use Rattle.setup.specs.declared.Setup.{Setup}
 use Rattle.setup.specs.SetupRules.{setupOk}
-use Rattle.setup.proofs.SetupLaws.{configured}
+use Rattle.setup.proofs.SetupLaws.{ok-configured}
 use Rattle.net.specs.Telegram.{telegramOf}
 use Rattle.net.proofs.SealLaws.{net-back}
 use Rattle.request.specs.declared.Request.the-variants.{Mirror}
@@ -35,7 +35,7 @@ mirror-is-read s net ok asked =
     let m = mirror-asked s net asked in
     let rx = telegramOf (s .node + 64) net in
     let d : decodedOf rx ≡ MirrorTelegram (s .node) =
-    sent-decoded (s .node + 64) net (m .0) (m .1) ∙ ap (λ (a : Address). kindOf a (length net + 3)) (to-mirror (s .node) (configured s ok .nodes)) in
+    sent-decoded (s .node + 64) net (m .0) (m .1) ∙ ap (λ (a : Address). kindOf a (length net + 3)) (to-mirror (s .node) (ok-configured s ok .nodes)) in
     record {
       decoded = d;
       net-is = net-back (s .node + 64) net (m .0) (m .1);

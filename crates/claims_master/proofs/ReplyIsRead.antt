@@ -12,11 +12,11 @@ use Rattle.rows.proofs.BoolLaws.{and-left}
 use Rattle.words.specs.declared.Words.{Words}
 use Rattle.setup.specs.declared.Setup.{Setup}
 use Rattle.setup.specs.SetupRules.{netBytes}
-use Rattle.setup.proofs.SetupLaws.{Configured, configured}
+use Rattle.setup.proofs.SetupLaws.{Configured, ok-configured}
 use Rattle.frame.specs.declared.Decoded.{Decoded}
 use Rattle.opening.specs.declared.Opening.the-variants.{Passed}
 use Rattle.opening.specs.Answers.{openingOf}
-use Rattle.opening.proofs.AnswersLaws.{opened}
+use Rattle.opening.proofs.AnswersLaws.{passed-opened}
 use Rattle.net.specs.declared.Area.{Area}
 use Rattle.net.specs.Net.{netOf}
 use Rattle.net.specs.Telegram.{telegramOf}
@@ -26,7 +26,7 @@ use Rattle.task.specs.Task.{tasks, taskOf}
 use Rattle.task.proofs.PageLaws.{named-back, id-back}
 use Rattle.request.specs.declared.Request.the-variants.{Task}
 use Rattle.request.specs.Request.{unusedZero, taskFits, expressible}
-use Rattle.request.proofs.RequestLaws.{Idle, Asked, task-asked}
+use Rattle.request.proofs.RequestLaws.{AllZero, Asked, task-asked}
 use Rattle.slave.specs.Slave.{taskDone, replyOf}
 use Rattle.slave.specs.Perform.{Performed, emptyArea, performTask, performOf}
 use Rattle.master.specs.Build.{taskArea, telegramFor}
@@ -35,7 +35,7 @@ use Rattle.reply.specs.declared.ReadAnswer.the-variants.{Read}
 use Rattle.reply.specs.Reply.{replyContent, zeroWords, readNormal, readDecoded, readTask, readOf}
 use Rattle.claims_master.specs.Claims.{ReplyRead}
 use Rattle.claims_master.proofs.SentLaws.{normal-decoded}
-use Rattle.claims_master.proofs.CarriedLaws.{area-words, Carried, carried-of}
+use Rattle.claims_master.proofs.CarriedLaws.{area-words, CarriedTask, carried-of}
 use Rattle.claims_master.proofs.TaskIsRead.{normal-area, task-is-read}
 use Rattle.claims_master.proofs.ReplyLaws.{Replies, empty-replies, suited-replies, reply-echoes}
 use Rattle.claims_master.proofs.AnswerLaws.{task-answers}
@@ -43,16 +43,16 @@ use Rattle.claims_master.proofs.AnswerLaws.{task-answers}
 -- ---- the reading of a telegram of the set-up
 
 module _ (s : Setup) (c : Configured s) (p : Area) (status : Words) (heads : Headed p) (words : Worded status) (id number index : ℕ) where
-  abbrev answer : List ℕ
-  answer = telegramOf (s .node) (netOf p (s .pkw) status (s .pzd))
+  abbrev replyTelegram : List ℕ
+  replyTelegram = telegramOf (s .node) (netOf p (s .pkw) status (s .pzd))
 
-  read-is : readTask s id number index answer ≡ readNormal (s .node) (netBytes s + 3 - 3) s id number index answer
+  read-is : readTask s id number index replyTelegram ≡ readNormal (s .node) (netBytes s + 3 - 3) s id number index replyTelegram
   unfolding readTask
-  read-is = ap (λ (d : Decoded). readDecoded d s id number index answer) (normal-decoded s c p status)
+  read-is = ap (λ (d : Decoded). readDecoded d s id number index replyTelegram) (normal-decoded s c p status)
 
   -- without an area
   read-none : s .pkw ≡ 0
-      → readTask s id number index answer ≡ record { answer = Read Empty; process = firstWords (s .pzd) status zeroWords }
+      → readTask s id number index replyTelegram ≡ record { answer = Read Empty; process = firstWords (s .pzd) status zeroWords }
   unfolding readNormal
   read-none e =
       let n : netBytes s + 3 - 3 ≡ netBytes s = omega arith in
@@ -66,7 +66,7 @@ module _ (s : Setup) (c : Configured s) (p : Area) (status : Words) (heads : Hea
 
   -- with an area that is a reply to the task
   read-area : (s .pkw ≡ 0 → ⊥) → Replies (s .pkw) id number index p
-      → readTask s id number index answer ≡ record { answer = Read (replyContent id p); process = firstWords (s .pzd) status zeroWords }
+      → readTask s id number index replyTelegram ≡ record { answer = Read (replyContent id p); process = firstWords (s .pzd) status zeroWords }
   unfolding readNormal
   read-area some r =
       let n : netBytes s + 3 - 3 ≡ netBytes s = omega arith in
@@ -96,10 +96,10 @@ performed-replies s t vs room id number index value c passed some fits v small =
     a : Area
     a = taskArea id number index value
 
-    f : Carried s id number index value
+    f : CarriedTask s id number index value
     f = carried-of s id number index value c fits v
 
-    go : ((id ≡ 0) × Idle number index value) ⊎ Asked (s .pkw) id number index value
+    go : ((id ≡ 0) × AllZero number index value) ⊎ Asked (s .pkw) id number index value
         → Replies (s .pkw) id number index (performTask (s .pkw) (taskOf id) t vs (taskArea id number index value) .area)
     go (inl e) =
         let none : performTask (s .pkw) (taskOf id) t vs (taskArea id number index value) .area ≡ emptyArea =
@@ -143,7 +143,7 @@ pub reply-is-read : (s : Setup) (t vs : List ℕ) (room id number index value : 
     (readOf s (Task id number index value process) (replyOf s (taskDone (s .pkw) t vs (telegramFor s (Task id number index value process) net) .area) status))
 unfolding readOf expressible
 reply-is-read s t vs room id number index value process status net passed asked v w g small =
-    let ok = opened s t vs room passed .setup-good in
+    let ok = passed-opened s t vs room passed .setup-good in
     let done = task-is-read s id number index value process net ok asked v w .performed t vs in
     let fits = and-left (taskFits (s .pkw) id number index value) (unusedZero (s .pzd) process) asked in
-    rw (ok, asked) (reply-of-task s t vs room id number index value status (taskDone (s .pkw) t vs (telegramFor s (Task id number index value process) net)) (configured s ok) passed fits v g small done)
+    rw (ok, asked) (reply-of-task s t vs room id number index value status (taskDone (s .pkw) t vs (telegramFor s (Task id number index value process) net)) (ok-configured s ok) passed fits v g small done)

@@ -17,7 +17,7 @@ use Rattle.net.specs.declared.Area.{Area}
 use Rattle.net.specs.Net.{netOf}
 use Rattle.net.specs.Telegram.{telegramOf}
 use Rattle.net.proofs.NetLaws.{length-net}
-use Rattle.net.proofs.SealLaws.{passes}
+use Rattle.net.proofs.SealLaws.{telegram-passes}
 
 -- ---- address bytes
 
@@ -45,7 +45,7 @@ to-all = refl
 
 -- a telegram that can be sent is decoded by its address byte
 pub sent-decoded : (adr : ℕ) (net : List ℕ) → 1 ≤ length net → length net ≤ 252 → decodedOf (telegramOf adr net) ≡ kindOf (addressOf adr) (length net + 3)
-sent-decoded adr net some fits = ap (λ (r : FrameCheck). decodedFrom r adr) (passes adr net some fits)
+sent-decoded adr net some fits = ap (λ (r : FrameCheck). decodedFrom r adr) (telegram-passes adr net some fits)
 
 -- the net bytes of a set-up that may be used
 module _ (s : Setup) (c : Configured s) (a : Area) (w : Words) where

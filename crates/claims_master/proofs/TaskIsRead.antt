@@ -11,7 +11,7 @@ use Rattle.rows.proofs.BoolLaws.{and-left}
 use Rattle.words.specs.declared.Words.{Words}
 use Rattle.setup.specs.declared.Setup.{Setup}
 use Rattle.setup.specs.SetupRules.{setupOk, netBytes}
-use Rattle.setup.proofs.SetupLaws.{Configured, configured, area-few}
+use Rattle.setup.proofs.SetupLaws.{Configured, ok-configured, area-few}
 use Rattle.frame.specs.Address.{decodedOf}
 use Rattle.frame.specs.declared.Decoded.the-variants.{Normal}
 use Rattle.net.specs.declared.Area.{Area}
@@ -28,7 +28,7 @@ use Rattle.slave.proofs.CaseLaws.{executed, normal-replied}
 use Rattle.master.specs.Build.{taskArea, telegramFor}
 use Rattle.claims_master.specs.Claims.{TaskRead}
 use Rattle.claims_master.proofs.SentLaws.{normal-decoded}
-use Rattle.claims_master.proofs.CarriedLaws.{area-words, Carried, carried-of}
+use Rattle.claims_master.proofs.CarriedLaws.{area-words, CarriedTask, carried-of}
 
 -- an area of three or four words comes back
 pub normal-area : (s : Setup) (c : Configured s) (a : Area) (w : Words) → Headed a → Worded w → (s .pkw ≡ 0 → ⊥) → a .value < 65536 ^ (s .pkw - 2)
@@ -71,7 +71,7 @@ control-taken s rx process control h w =
     control-of (eqb (s .pzd) 0) (firstWord s rx) (process .w1) (processAt rx (s .pkw) (s .pzd) control) (firstWords (s .pzd) process control) control
     (λ e. let n = eqb-false (s .pzd) 0 e in h (omega arith)) w
 
-task-read : (s : Setup) (id number index value : ℕ) (process : Words) → Configured s → Carried s id number index value → Worded process
+task-read : (s : Setup) (id number index value : ℕ) (process : Words) → Configured s → CarriedTask s id number index value → Worded process
     → TaskRead s id number index value process (telegramOf (s .node) (netOf (taskArea id number index value) (s .pkw) process (s .pzd)))
 unfolding taskArea
 task-read s id number index value process c f g =
@@ -103,6 +103,6 @@ pub task-is-read : (s : Setup) (id number index value : ℕ) (process : Words) (
     → TaskRead s id number index value process (telegramFor s (Task id number index value process) net)
 unfolding telegramFor expressible
 task-is-read s id number index value process net ok asked v g =
-    let c = configured s ok in
+    let c = ok-configured s ok in
     let fits = and-left (taskFits (s .pkw) id number index value) (unusedZero (s .pzd) process) asked in
     task-read s id number index value process c (carried-of s id number index value c fits v) g

@@ -184,28 +184,24 @@ store-put-one κs a r r′ s s′ p p′ = equal-through (p .0) (p′ .0)
 pub store-put-buffer : OneExit store-put.Post (λ κs s. now (s .0))
 store-put-buffer κs a r r′ s s′ p p′ = equal-through (p .1) (p′ .1)
 
--- result and buffer
 pub net-seal-one : OneResult net-seal.Post
 net-seal-one κs a r r′ s s′ p p′ = equal-through (p .0) (p′ .0)
 
 pub net-seal-buffer : OneExit net-seal.Post (λ κs s. now (s .0))
 net-seal-buffer κs a r r′ s s′ p p′ = equal-through (p .1) (p′ .1)
 
--- result and buffer
 pub net-write-normal-one : OneResult net-write-normal.Post
 net-write-normal-one κs a r r′ s s′ p p′ = equal-through (p .0) (p′ .0)
 
 pub net-write-normal-buffer : OneExit net-write-normal.Post (λ κs s. now (s .0))
 net-write-normal-buffer κs a r r′ s s′ p p′ = equal-through (p .1) (p′ .1)
 
--- result and buffer
 pub text-put-number-one : OneResult text-put-number.Post
 text-put-number-one κs a r r′ s s′ p p′ = equal-through (p .0) (p′ .0)
 
 pub text-put-number-buffer : OneExit text-put-number.Post (λ κs s. now (s .0))
 text-put-number-buffer κs a r r′ s s′ p p′ = equal-through (p .1) (p′ .1)
 
--- result and buffer
 pub listing-list-one : OneResult listing-list.Post
 listing-list-one κs a r r′ s s′ p p′ = equal-through (p .0) (p′ .0)
 

@@ -63,9 +63,12 @@ byKind h b m node long void =
     firstOf ((h, 15) ∷ (b && m, 15) ∷ (b, firstOf ((not long, 17) ∷ (void, 18) ∷ []) 2) ∷ (m, firstOf ((not node, 16) ∷ []) 1) ∷ [])
     (firstOf ((not node, 16) ∷ (not long, 17) ∷ []) 0)
 
+abbrev lineRows : Bool → Bool → Bool → Bool → Bool → Bool → List (Bool × ℕ)
+lineRows h b m node long void =
+    (h || b && m, 15) ∷ (not b && not node, 16) ∷ (not m && not long, 17) ∷ (b && void, 18) ∷ (b, 2) ∷ (m, 1) ∷ []
+
 abbrev byLine : Bool → Bool → Bool → Bool → Bool → Bool → ℕ
-byLine h b m node long void =
-    firstOf ((h || b && m, 15) ∷ (not b && not node, 16) ∷ (not m && not long, 17) ∷ (b && void, 18) ∷ []) (cond b 2 (cond m 1 0))
+byLine h b m node long void = firstOf (lineRows h b m node long void) 0
 
 kinds : (h b m node long void : Bool) → byKind h b m node long void ≡ byLine h b m node long void
 kinds true b m node long void = refl
@@ -79,10 +82,10 @@ kinds false false false true true void = refl
 kinds false false false true false void = refl
 kinds false false false false long void = refl
 
-module _ (s : Setup) (t vs : List ℕ) (control status : Words) (rx out : List ℕ) where
-  abbrev numberOf : Outcome → ℕ
-  numberOf o = answerNumber (o .served .answer)
+abbrev numberOf : Outcome → ℕ
+numberOf o = answerNumber (o .served .answer)
 
+module _ (s : Setup) (rx : List ℕ) where
   abbrev ownNode : Bool
   ownNode = eqb (byteAt rx 2 % 32) (s .node)
 
@@ -92,6 +95,17 @@ module _ (s : Setup) (t vs : List ℕ) (control status : Words) (rx out : List �
   abbrev voided : Bool
   voided = isVoid (commandAt rx (s .pkw)) (s .pkw) (s .pzd) (firstWord s rx)
 
+  abbrev tableNumber : ℕ
+  tableNumber = byLine (topBit rx) (broadcastBit rx) (mirrorBit rx) ownNode ownLength voided
+
+  -- past the frame check
+  table-beyond : NotFrame tableNumber
+  table-beyond =
+      first-all NotFrame (lineRows (topBit rx) (broadcastBit rx) (mirrorBit rx) ownNode ownLength voided) 0
+      (inr (lit< tt), (inr (lit< tt), (inr (lit< tt), (inr (lit< tt), (inl (lit< tt), (inl (lit< tt), tt))))))
+      (inl (lit< tt))
+
+module _ (s : Setup) (t vs : List ℕ) (control status : Words) (rx out : List ℕ) where
   normal-number : (node n : ℕ) → numberOf (normalCase node n s t vs control status rx out)
       ≡ firstOf ((not (eqb node (s .node)), 16) ∷ (not (eqb n (netBytes s)), 17) ∷ []) 0
   unfolding normalCase
@@ -111,11 +125,11 @@ module _ (s : Setup) (t vs : List ℕ) (control status : Words) (rx out : List �
       (record { served = record { answer = Mirrored; length = length rx; control = control }; reply = written out rx })
 
   broadcast-number : answerNumber (broadcastCase (length rx - 4) s control rx .answer)
-      ≡ firstOf ((not ownLength, 17) ∷ (voided, 18) ∷ []) 2
+      ≡ firstOf ((not (ownLength s rx), 17) ∷ (voided s rx, 18) ∷ []) 2
   unfolding broadcastCase
   broadcast-number =
       first-read (λ (x : Served). answerNumber (x .answer))
-      ((not ownLength, refusedServed OtherLength control) ∷ (voided, refusedServed VoidBroadcast control) ∷ [])
+      ((not (ownLength s rx), refusedServed OtherLength control) ∷ (voided s rx, refusedServed VoidBroadcast control) ∷ [])
       (record { answer = Taken; length = 0; control = controlAfter (commandAt rx (s .pkw)) control (processAt rx (s .pkw) (s .pzd) control) })
 
   -- ---- the address byte
@@ -123,22 +137,21 @@ module _ (s : Setup) (t vs : List ℕ) (control status : Words) (rx out : List �
   abbrev ofDecoded : Decoded → ℕ
   ofDecoded d = numberOf (executeDecoded d s t vs control status rx out)
 
-  sound-number : ofDecoded (kindOf (addressOf (byteAt rx 2)) (lastOf rx))
-      ≡ byKind (topBit rx) (broadcastBit rx) (mirrorBit rx) ownNode ownLength voided
+  sound-number : ofDecoded (kindOf (addressOf (byteAt rx 2)) (lastOf rx)) ≡ tableNumber s rx
   unfolding addressOf
   sound-number =
       let net : lastOf rx - 3 ≡ length rx - 4 = omega arith in
       let normal = normal-number (byteAt rx 2 % 32) (lastOf rx - 3) in
       first-read (λ (a : Address). ofDecoded (kindOf a (lastOf rx))) (addressRows (byteAt rx 2)) (ToOne (byteAt rx 2 % 32))
       ∙ rw (normal, mirror-number (byteAt rx 2 % 32), broadcast-number, net)
+      (kinds (topBit rx) (broadcastBit rx) (mirrorBit rx) (ownNode s rx) (ownLength s rx) (voided s rx))
 
   -- ---- the frame check
 
   abbrev frameNumbers : List (Bool × ℕ)
   frameNumbers = readRows (λ (r : FrameCheck). ofDecoded (decodedFrom r (byteAt rx 2))) (frameRows rx)
 
-  frame-number : numberOf (executeOf s t vs control status rx out)
-      ≡ firstOf frameNumbers (byKind (topBit rx) (broadcastBit rx) (mirrorBit rx) ownNode ownLength voided)
+  frame-number : numberOf (executeOf s t vs control status rx out) ≡ firstOf frameNumbers (tableNumber s rx)
   unfolding executeOf frameOf
   frame-number =
       first-read (λ (r : FrameCheck). ofDecoded (decodedFrom r (byteAt rx 2))) (frameRows rx) (Sound (lastOf rx))
@@ -158,9 +171,7 @@ module _ (s : Setup) (t vs : List ℕ) (control status : Words) (rx out : List �
 
   pub answer-table : answerNumber (callOf s t vs control status rx out .served .answer)
       ≡ firstOf (answerRows s t vs (length out) rx) (acceptedNumber rx)
-  answer-table =
-      call-number ∙ ap (λ (n : ℕ). firstOf openingNumbers n) frame-number
-      ∙ ap (λ (n : ℕ). firstOf openingNumbers (firstOf frameNumbers n)) (kinds (topBit rx) (broadcastBit rx) (mirrorBit rx) ownNode ownLength voided)
+  answer-table = call-number ∙ ap (λ (n : ℕ). firstOf openingNumbers n) frame-number
 
   pub answer-exactly : Chosen (answerRows s t vs (length out) rx) (acceptedNumber rx) (answerNumber (callOf s t vs control status rx out .served .answer))
   answer-exactly =
@@ -171,34 +182,11 @@ module _ (s : Setup) (t vs : List ℕ) (control status : Words) (rx out : List �
       → answerNumber (callOf s t vs control status rx out .served .answer) ≡ n
   exactly-answer n c = answer-table ∙ sym (chosen-first (answerRows s t vs (length out) rx) (acceptedNumber rx) n c)
 
--- ---- past the frame check
-
-line-beyond : (h b m node long void : Bool) → NotFrame (byLine h b m node long void)
-line-beyond h b m node long void =
-    first-all NotFrame
-    ((h || b && m, 15) ∷ (not b && not node, 16) ∷ (not m && not long, 17) ∷ (b && void, 18) ∷ [])
-    (cond b 2 (cond m 1 0))
-    (inr (lit< tt), (inr (lit< tt), (inr (lit< tt), (inr (lit< tt), tt))))
-    (taken b m)
-  where
-    taken : (b m : Bool) → NotFrame (cond b 2 (cond m 1 0))
-    taken true m = inl (lit< tt)
-    taken false true = inl (lit< tt)
-    taken false false = inl (lit< tt)
-
-module _ (s : Setup) (t vs : List ℕ) (control status : Words) (rx out : List ℕ) where
   pub beyond-frame : openingOf s t vs (length out) ≡ Passed → Framed rx → PastFrame (callOf s t vs control status rx out)
   beyond-frame p f =
       let o = called s t vs control status rx out Passed p
       ∙ executed s t vs control status rx out (kindOf (addressOf (byteAt rx 2)) (lastOf rx)) (framed-decoded rx f) in
-      let h = topBit rx in
-      let b = broadcastBit rx in
-      let m = mirrorBit rx in
-      let node = ownNode s t vs control status rx out in
-      let long = ownLength s t vs control status rx out in
-      let void = voided s t vs control status rx out in
-      let n = ap (λ (x : Outcome). answerNumber (x .served .answer)) o ∙ sound-number s t vs control status rx out ∙ kinds h b m node long void in
-      subst NotFrame (sym n) (line-beyond h b m node long void)
+      subst NotFrame (sym (ap numberOf o ∙ sound-number)) (table-beyond s rx)
 
 -- ---- bit 7
 

@@ -19,7 +19,7 @@ use Rattle.frame.specs.Address.{decodedFrom, decodedOf}
 use Rattle.frame.specs.declared.Fault.the-variants.{InFrame}
 use Rattle.frame.specs.declared.FrameCheck.{FrameCheck}
 use Rattle.frame.specs.declared.Decoded.the-variants.{Refused as Unread}
-use Rattle.frame.proofs.FrameLaws.{framed}
+use Rattle.frame.proofs.FrameLaws.{sound-framed}
 use Rattle.opening.specs.Answers.{openingOf}
 use Rattle.opening.specs.declared.Opening.the-variants.{Passed}
 use Rattle.claims_damage.specs.Damage.{Refuses, damaged, Damage, flips, Unseen, Hit, OneByte, Order, Burst}
@@ -53,7 +53,7 @@ module _ (s : Setup) (table vs : List ℕ) (control status : Words) (out : List 
 
   unseen-beyond : (t f : List ℕ) → openingOf s table vs (length out) ≡ Passed → Damage t f → Unseen f
       → PastFrame (callOf s table vs control status (damaged t f) out)
-  unseen-beyond t f p d u = beyond-frame s table vs control status (damaged t f) out p (framed (damaged t f) (exact t f d .1 u))
+  unseen-beyond t f p d u = beyond-frame s table vs control status (damaged t f) out p (sound-framed (damaged t f) (exact t f d .1 u))
 
   -- demand 3's passing half: "It passes the frame check exactly when the first two bytes are spared and every position is flipped
   -- an even number of times". It also shuts out the slave that refuses everything in frame.

@@ -11,7 +11,7 @@ use lib.Dec.{eqb}
 use lib.ListN.{length, drop, length-append, length-drop}
 use Rattle.words.specs.declared.Words.{Words}
 use Rattle.setup.specs.declared.Setup.{Setup}
-use Rattle.setup.proofs.SetupLaws.{configured, area-few}
+use Rattle.setup.proofs.SetupLaws.{ok-configured, area-few}
 use Rattle.entry.specs.Fields.{countOf}
 use Rattle.entry.specs.Limits.{isWithin}
 use Rattle.table.specs.Records.{entryAt, entries, findIn, firstPlace}
@@ -22,7 +22,7 @@ use Rattle.frame.specs.declared.Decoded.the-variants.{Mirror}
 use Rattle.frame.proofs.DecodedLaws.{telegram-framed}
 use Rattle.opening.specs.Answers.{openingOf}
 use Rattle.opening.specs.declared.Opening.the-variants.{Passed}
-use Rattle.opening.proofs.AnswersLaws.{opened}
+use Rattle.opening.proofs.AnswersLaws.{passed-opened}
 use Rattle.opening.proofs.KeptLaws.{change-keeps-opening}
 use Rattle.net.specs.declared.Area.{Area}
 use Rattle.net.specs.Net.{netOf}
@@ -104,13 +104,13 @@ module _ (s : Setup) (t vs : List ℕ) (room : ℕ) (passed : openingOf s t vs r
       k : Task
       k = taskOf (a .pke / 4096)
 
-      found : (f : Found) → foundOf t a ≡ f → Stays (performFound n k a t vs f .values)
-      found Nothing e = passed
-      found (At j) e = record-keeps n k a j (found-is t a j e)
+      found-keeps : (f : Found) → foundOf t a ≡ f → Stays (performFound n k a t vs f .values)
+      found-keeps Nothing e = passed
+      found-keeps (At j) e = record-keeps n k a j (found-is t a j e)
 
       busy : (b : Bool) → Stays (cond b (record { area = emptyArea; values = vs }) (performFound n k a t vs (foundOf t a)) .values)
       busy true = passed
-      busy false = found (foundOf t a) refl
+      busy false = found-keeps (foundOf t a) refl
 
       go : (b : Bool) → Stays (cond b (record { area = emptyArea; values = vs }) (performOf n t vs a) .values)
       go true = passed
@@ -134,8 +134,8 @@ module _ (s : Setup) (t vs : List ℕ) (control status : Words) (rx out : List �
 
   pub buffer-kept : openingOf s t vs (length out) ≡ Passed → length (after .reply) ≡ length out
   buffer-kept p =
-      let o = opened s t vs (length out) p in
-      let c = configured s (o .setup-good) in
+      let o = passed-opened s t vs (length out) p in
+      let c = ok-configured s (o .setup-good) in
       call-cases s t vs control status rx out (λ r. length (r .reply) ≡ length out)
       (λ r b. refl)
       (λ q d l. let a = taskDone (s .pkw) t vs rx .area in

@@ -30,8 +30,8 @@ abbrev pub table : List ℕ
 table = 0x08 ∷ 0x74 ∷ 0x40 ∷ 0x00 ∷ 0x00 ∷ 0x00 ∷ 0x00 ∷ 0x00 ∷ 0x00 ∷ 0x00 ∷ 0x27 ∷ 0x10 ∷ []
 
 -- its value is 5000
-abbrev pub start : State
-start = record { values = 5000 ∷ []; control = twoWords 0 0; buffer = replicate 256 0 }
+abbrev pub startState : State
+startState = record { values = 5000 ∷ []; control = twoWords 0 0; buffer = replicate 256 0 }
 
 abbrev pub eventOf : List ℕ → Event
 eventOf rx = record { received = rx; status = status }
@@ -68,7 +68,7 @@ abbrev pub awaited : List ℕ × ℕ × List ℕ → ℕ × List ℕ
 awaited c = (c .1, c .2)
 
 abbrev pub ran : Run
-ran = runOf setup table start (map (λ (c : List ℕ × ℕ × List ℕ). eventOf (c .0)) calls)
+ran = runOf setup table startState (map (λ (c : List ℕ × ℕ × List ℕ). eventOf (c .0)) calls)
 
 -- each call is answered so, one after another; the value left is the one that was changed, the control words are those of the
 -- last normal telegram with the broadcast's masked bits

@@ -13,7 +13,7 @@ use lib.ListN.{length, take, drop, set}
 use lib.Seq.{take-at, drop-at}
 use Rattle.words.specs.declared.Words.{Words}
 use Rattle.setup.specs.declared.Setup.{Setup}
-use Rattle.setup.proofs.SetupLaws.{configured, area-few}
+use Rattle.setup.proofs.SetupLaws.{ok-configured, area-few}
 use Rattle.table.specs.Records.{entryAt, entries, firstPlace}
 use Rattle.table.proofs.RecordsLaws.{places-fit}
 use Rattle.frame.specs.Frame.{frameOf}
@@ -23,11 +23,11 @@ use Rattle.frame.specs.declared.Address.the-variants.{ToOne}
 use Rattle.frame.specs.declared.FrameCheck.the-variants.{Sound}
 use Rattle.frame.specs.declared.Decoded.the-variants.{Normal}
 use Rattle.frame.proofs.DecodedLaws.{telegram-framed, normal-bounds}
-use Rattle.opening.proofs.AnswersLaws.{opened}
+use Rattle.opening.proofs.AnswersLaws.{passed-opened}
 use Rattle.net.specs.Net.{netOf}
 use Rattle.net.specs.Read.{processAt}
 use Rattle.net.proofs.NetLaws.{length-net}
-use Rattle.net.proofs.SealLaws.{passes}
+use Rattle.net.proofs.SealLaws.{telegram-passes}
 use Rattle.slave.specs.declared.Answer.the-variants.{Replied, Mirrored}
 use Rattle.setup.specs.SetupRules.{netBytes}
 use Rattle.slave.specs.Slave.{written, firstWord, taskDone, replyOf, controlTaken, callOf}
@@ -60,13 +60,13 @@ module _ (s : Setup) (t vs : List ℕ) (control status : Words) (rx out : List �
   unfolding replyOf
   reply-sound e =
       let h = replied-exactly s t vs control status rx out .0 e in
-      let c = configured s (opened s t vs (length out) (h .0) .setup-good) in
+      let c = ok-configured s (passed-opened s t vs (length out) (h .0) .setup-good) in
       let a = taskDone (s .pkw) t vs rx .area in
       let net = netOf a (s .pkw) status (s .pzd) in
       let long : length net ≡ netBytes s = length-net a (s .pkw) status (s .pzd) (c .process) ∙ omega arith in
       let small = area-few s c in
       let frame : frameOf (replyOf s a status) ≡ Sound (3 + netBytes s) =
-      passes (s .node) net (omega (arith, c .some)) (omega (arith, c .process)) ∙ ap Sound (omega arith) in
+      telegram-passes (s .node) net (omega (arith, c .some)) (omega (arith, c .process)) ∙ ap Sound (omega arith) in
       let sent = sent-is out (replyOf s a status) in
       let rl = reply-long s a status (c .process) in
       let f = telegram-framed rx (Normal (s .node) 3 (3 + netBytes s)) (h .1) refl in
@@ -106,7 +106,7 @@ module _ (s : Setup) (t vs : List ℕ) (control status : Words) (rx out : List �
   unfolding entries
   change-stored e j g =
       let h = replied-exactly s t vs control status rx out .0 e in
-      let o = opened s t vs (length out) (h .0) in (
+      let o = passed-opened s t vs (length out) (h .0) in (
         rw (replied-call s t vs control status rx out (h .0) (h .1)) (change-done s t vs rx j g),
         granted-place (s .pkw) (taskIn s rx) (areaIn s rx) (entryAt t j) vs (firstPlace t j) (g .granted)
             (omega (arith, o .count, places-fit t (length t / 12) j (found-is t (areaIn s rx) j (g .found)))),

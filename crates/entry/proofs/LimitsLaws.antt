@@ -48,9 +48,9 @@ pub record Ruled (e : Entry) : Type 0 where
   pub high-fits : fitsIn (e .double) (e .maximum) ≡ true
   pub ordered : atMost (e .double) (e .signed) (e .minimum) (e .maximum) ≡ true
 
-pub ruled : (e : Entry) → entryOk e ≡ true → Ruled e
+pub ok-ruled : (e : Entry) → entryOk e ≡ true → Ruled e
 unfolding entryOk
-ruled e h =
+ok-ruled e h =
     let a = leb (e .number) 31999 in
     let b = leb (e .elements) 254 in
     let c = eqb (e .spare) 0 in

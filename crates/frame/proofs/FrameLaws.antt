@@ -29,9 +29,9 @@ pub record Framed (t : List ℕ) : Type 0 where
   pub counted : Counted t
   pub check : byteAt t (lastOf t) ≡ xorAll (take (lastOf t) t)
 
-pub framed : (t : List ℕ) → isSound (frameOf t) ≡ true → Framed t
+pub sound-framed : (t : List ℕ) → isSound (frameOf t) ≡ true → Framed t
 unfolding frameOf
-framed t h =
+sound-framed t h =
     let p1 = row-passed isSound (ltb (length t) 5) (Broken Short) _ refl h in
     let p2 = row-passed isSound (not (eqb (byteAt t 0) 2)) (Broken Start) _ refl (p1 .1) in
     let p3 = row-passed isSound (ltb (byteAt t 1) 3 || ltb 254 (byteAt t 1)) (Broken Length) _ refl (p2 .1) in
@@ -61,8 +61,8 @@ check-wrong t k n =
     simp
     (le-ltb _ _ (k .long), eq-eqb _ _ (k .start), le-ltb _ _ (k .low), le-ltb _ _ (k .high), eq-eqb _ _ (k .count), ne-eqb _ _ n)
 
-pub sound : (t : List ℕ) → Framed t → frameOf t ≡ Sound (lastOf t)
-sound t f = check-right t (f .counted) (f .check)
+pub framed-sound : (t : List ℕ) → Framed t → frameOf t ≡ Sound (lastOf t)
+framed-sound t f = check-right t (f .counted) (f .check)
 
 -- ---- the same as the code reckons it: LGE + 1 is the place of BCC, and 02, LGE and ADR are mixed into the XOR of the net bytes
 

@@ -10,7 +10,7 @@ use lib.Bits.{bitXor}
 use Rattle.frame.specs.Bcc.{xorAll}
 use Rattle.frame.specs.Frame.{frameOf, lastOf}
 use Rattle.frame.specs.declared.FrameCheck.the-variants.{Sound}
-use Rattle.frame.proofs.FrameLaws.{sound}
+use Rattle.frame.proofs.FrameLaws.{framed-sound}
 use Rattle.net.specs.Telegram.{bodyOf, telegramOf}
 
 pub length-telegram : (adr : ℕ) (net : List ℕ) → length (telegramOf adr net) ≡ length net + 4
@@ -23,9 +23,9 @@ module _ (adr : ℕ) (net : List ℕ) (some : 1 ≤ length net) (fits : length n
   body : take (lastOf (telegramOf adr net)) (telegramOf adr net) ≡ bodyOf adr net
   body = take-at (bodyOf adr net) (xorAll (bodyOf adr net) ∷ []) (lastOf (telegramOf adr net)) last
 
-  pub passes : frameOf (telegramOf adr net) ≡ Sound (length net + 3)
-  passes =
-      sound (telegramOf adr net)
+  pub telegram-passes : frameOf (telegramOf adr net) ≡ Sound (length net + 3)
+  telegram-passes =
+      framed-sound (telegramOf adr net)
       (record {
         counted = record {
           long = omega (arith, length-telegram adr net);
@@ -48,16 +48,16 @@ three-set : (out : List ℕ) (x y z : ℕ) → 3 ≤ length out → set (set (se
 three-set out x y z h = sets-eq (x ∷ y ∷ z ∷ []) out 0 h
 
 module _ (out : List ℕ) (adr n : ℕ) (room : 256 ≤ length out) (fits : n ≤ 252) where
-  abbrev headed : List ℕ → List ℕ
-  headed l = 2 ∷ (n + 2) ∷ adr ∷ l
+  abbrev afterHead : List ℕ → List ℕ
+  afterHead l = 2 ∷ (n + 2) ∷ adr ∷ l
 
   abbrev pub started : List ℕ
   started = set (set (set out 0 2) 1 (n + 2)) 2 adr
 
-  started-is : started ≡ headed (drop 3 out)
+  started-is : started ≡ afterHead (drop 3 out)
   started-is = three-set out 2 (n + 2) adr (omega arith)
 
-  body-is : bodyOf adr (take n (drop 3 out)) ≡ headed (take n (drop 3 out))
+  body-is : bodyOf adr (take n (drop 3 out)) ≡ afterHead (take n (drop 3 out))
   body-is =
       ap (λ (k : ℕ). 2 ∷ (k + 2) ∷ adr ∷ take n (drop 3 out)) (length-take-le n (drop 3 out) (simp length-drop (omega arith)))
 
@@ -72,11 +72,11 @@ module _ (out : List ℕ) (adr n : ℕ) (room : 256 ≤ length out) (fits : n �
   pub written : (sum : ℕ) → sum ≡ xorAll (take n (drop 3 out)) → set started (n + 3) (reckoned sum) ≡ telegramOf adr (take n (drop 3 out)) ++ drop (n + 4) out
   written sum given =
       let s = xorAll (bodyOf adr (take n (drop 3 out))) in
-      let e : set (headed (drop 3 out)) (n + 3) s ≡ headed (take n (drop 3 out)) ++ s ∷ drop (suc n) (drop 3 out) =
-      rw add-three (ap headed (set-split (drop 3 out) n s (simp length-drop (omega arith)))) in
+      let e : set (afterHead (drop 3 out)) (n + 3) s ≡ afterHead (take n (drop 3 out)) ++ s ∷ drop (suc n) (drop 3 out) =
+      rw add-three (ap afterHead (set-split (drop 3 out) n s (simp length-drop (omega arith)))) in
       let place : 3 + suc n ≡ n + 4 = omega arith in
       let rest : drop (suc n) (drop 3 out) ≡ drop (n + 4) out = drop-drop (suc n) 3 out ∙ ap (λ (k : ℕ). drop k out) place in
       ap (λ (b : ℕ). set started (n + 3) b) (reckoned-is sum given) ∙ ap (λ (l : List ℕ). set l (n + 3) s) started-is ∙ e
-      ∙ ap (λ (l : List ℕ). headed (take n (drop 3 out)) ++ s ∷ l) rest
+      ∙ ap (λ (l : List ℕ). afterHead (take n (drop 3 out)) ++ s ∷ l) rest
       ∙ ap (λ (l : List ℕ). l ++ s ∷ drop (n + 4) out) (sym body-is)
       ∙ sym (append-assoc (bodyOf adr (take n (drop 3 out))) (s ∷ []) (drop (n + 4) out))

@@ -83,9 +83,9 @@ all-passed true true false d e = let z : _≡_ {A = ℕ} 0 1 = cc in absurd (ome
 all-passed true true true true e = let z : _≡_ {A = ℕ} 0 1 = cc in absurd (omega arith)
 
 module _ (s : Setup) (t vs : List ℕ) (room : ℕ) where
-  pub opened : openingOf s t vs room ≡ Passed → Opened s t vs room
+  pub passed-opened : openingOf s t vs room ≡ Passed → Opened s t vs room
   unfolding openingOf
-  opened e =
+  passed-opened e =
       let p = all-passed (setupOk s) (tableOk t) (valuesOk t vs) (ltb room 256) e in
       let a = eqb (length t % 12) 0 in
       let b = leb (length t / 12) 512 in
@@ -111,8 +111,8 @@ module _ (s : Setup) (t vs : List ℕ) (room : ℕ) where
         buffer = ltb-false room 256 (p .3);
       }
 
-  pub opens : Opened s t vs room → openingOf s t vs room ≡ Passed
+  pub opened-passes : Opened s t vs room → openingOf s t vs room ≡ Passed
   unfolding openingOf
-  opens o =
+  opened-passes o =
       let f = le-leb (length t / 12) 512 (omega arith) in
       rw (o .setup-good, eq-eqb (length t % 12) 0 (o .whole), f, o .rising, o .ruled, le-leb _ _ (o .places), eq-eqb (countsOf (entries t)) (length vs) (o .count), o .limits, le-ltb room 256 (o .buffer))

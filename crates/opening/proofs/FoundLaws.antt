@@ -20,7 +20,7 @@ use Rattle.table.proofs.RecordsLaws.{found-below, find-here, find-on}
 use Rattle.opening.specs.declared.Opening.the-variants.{Passed}
 use Rattle.opening.specs.Rules.{risingFrom, eachOk, runOk, runsOk}
 use Rattle.opening.specs.Answers.{openingOf}
-use Rattle.opening.proofs.AnswersLaws.{opened}
+use Rattle.opening.proofs.AnswersLaws.{passed-opened}
 use Rattle.opening.proofs.KeptLaws.{place-below}
 
 -- the m-th of records that each keep their rules
@@ -57,17 +57,17 @@ runs-at t vs (suc m) (suc n) j p i h a b =
     rw (s, z) (runs-at t vs m n (suc j) (p + countOf e) i (and-right (runOk e vs (countOf e) p) (runsOk (entriesFrom t n (suc j)) vs (p + countOf e)) h) (omega arith) (rw s at b))
 
 -- the facts of a record of a table that passed
-pub record Placed (t vs : List ℕ) (k : ℕ) : Type 0 where
+pub record InTable (t vs : List ℕ) (k : ℕ) : Type 0 where
   pub below : k < length t / 12
   pub few : k < 512
   pub ok : entryOk (entryAt t k) ≡ true
   pub place : (i : ℕ) → i < countOf (entryAt t k) → firstPlace t k + i < length vs
   pub value : (i : ℕ) → i < countOf (entryAt t k) → isWithin (entryAt t k) (getD vs (firstPlace t k + i) 0) ≡ true
 
-pub placed : (s : Setup) (t vs : List ℕ) (room k : ℕ) → openingOf s t vs room ≡ Passed → k < length t / 12 → Placed t vs k
+pub passed-in-table : (s : Setup) (t vs : List ℕ) (room k : ℕ) → openingOf s t vs room ≡ Passed → k < length t / 12 → InTable t vs k
 unfolding entries
-placed s t vs room k e b =
-    let o = opened s t vs room e in
+passed-in-table s t vs room k e b =
+    let o = passed-opened s t vs room e in
     let n = length t / 12 in
     let z : 0 + k ≡ k = omega arith in
     record {
@@ -79,11 +79,11 @@ placed s t vs room k e b =
     }
 
 -- of a record that was found by its number
-pub found-placed : (s : Setup) (t vs : List ℕ) (room number k : ℕ) → openingOf s t vs room ≡ Passed → findIn t number ≡ At k → Placed t vs k
+pub found-in-table : (s : Setup) (t vs : List ℕ) (room number k : ℕ) → openingOf s t vs room ≡ Passed → findIn t number ≡ At k → InTable t vs k
 unfolding entries
-found-placed s t vs room number k e f =
+found-in-table s t vs room number k e f =
     let b = found-below number t (length t / 12) 0 k f in
-    placed s t vs room k e (omega arith)
+    passed-in-table s t vs room k e (omega arith)
 
 pub found-number : (t : List ℕ) (number k : ℕ) → findIn t number ≡ At k → entryAt t k .number ≡ number
 unfolding entries
@@ -124,4 +124,4 @@ find-rising t (suc n) j (suc m) least h b =
 pub record-found : (s : Setup) (t vs : List ℕ) (room k : ℕ) → openingOf s t vs room ≡ Passed → k < length t / 12
     → findIn t (entryAt t k .number) ≡ At k
 unfolding entries
-record-found s t vs room k e b = simp zero-add at (find-rising t (length t / 12) 0 k 0 (opened s t vs room e .rising) b)
+record-found s t vs room k e b = simp zero-add at (find-rising t (length t / 12) 0 k 0 (passed-opened s t vs room e .rising) b)

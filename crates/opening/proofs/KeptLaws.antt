@@ -18,7 +18,7 @@ use Rattle.table.proofs.RecordsLaws.{places-fit}
 use Rattle.opening.specs.declared.Opening.the-variants.{Passed}
 use Rattle.opening.specs.Rules.{runOk, runsOk}
 use Rattle.opening.specs.Answers.{openingOf}
-use Rattle.opening.proofs.AnswersLaws.{opened, opens}
+use Rattle.opening.proofs.AnswersLaws.{passed-opened, opened-passes}
 
 -- what a value at place q has to keep, of records whose places start at p
 abbrev Allows : List Entry → ℕ → ℕ → ℕ → Type 0
@@ -94,8 +94,8 @@ module _ (t vs : List ℕ) (k i : ℕ) (below : k < length t / 12) (element : i 
 pub change-keeps-opening : (s : Setup) (t vs : List ℕ) (room k i v : ℕ) → openingOf s t vs room ≡ Passed → k < length t / 12 → i < countOf (entryAt t k)
     → isWithin (entryAt t k) v ≡ true → openingOf s t (set vs (firstPlace t k + i) v) room ≡ Passed
 change-keeps-opening s t vs room k i v e a b c =
-    let o = opened s t vs room e in
-    opens s t (set vs (firstPlace t k + i) v) room
+    let o = passed-opened s t vs room e in
+    opened-passes s t (set vs (firstPlace t k + i) v) room
     (record {
       setup-good = o .setup-good;
       whole = o .whole;

@@ -13,8 +13,8 @@ use Rattle.opening.specs.Rules.{risingFrom, eachOk, runOk, runsOk}
 use Rattle.opening.specs.Answers.{openingOf}
 
 -- 1000: two words, unsigned, 0 to 10; 1082: a signed word, -100 to 100; 2000: a signed double, -1 to 1
-abbrev bytes : List ℕ
-bytes =
+abbrev threeRecords : List ℕ
+threeRecords =
     0x07 ∷ 0xd0 ∷ 0x40 ∷ 0x80 ∷ 0 ∷ 0 ∷ 0 ∷ 0 ∷ 0 ∷ 0 ∷ 0 ∷ 10
     ∷ 0x08 ∷ 0x74 ∷ 0xc0 ∷ 0 ∷ 0 ∷ 0 ∷ 0xff ∷ 0x9c ∷ 0 ∷ 0 ∷ 0 ∷ 100
     ∷ 0x0f ∷ 0xa1 ∷ 0xc0 ∷ 0 ∷ 0xff ∷ 0xff ∷ 0xff ∷ 0xff ∷ 0 ∷ 0 ∷ 0 ∷ 1
@@ -27,21 +27,21 @@ pub record Given : Type 0 where
   pub values : List ℕ
   pub room : ℕ
 
-abbrev given : ℕ → List ℕ → List ℕ → ℕ → Given
-given n t vs room = record { node = n; table = t; values = vs; room = room }
+abbrev givenOf : ℕ → List ℕ → List ℕ → ℕ → Given
+givenOf n t vs room = record { node = n; table = t; values = vs; room = room }
 
-abbrev answer : Given → Opening
-answer g = openingOf (record { node = g .node; pkw = 4; pzd = 2 }) (g .table) (g .values) (g .room)
+abbrev openingFor : Given → Opening
+openingFor g = openingOf (record { node = g .node; pkw = 4; pzd = 2 }) (g .table) (g .values) (g .room)
 
-pub known : map answer
-    (given 31 bytes (0 ∷ 10 ∷ 0xff9c ∷ 0xffff_ffff ∷ []) 256
-    ∷ given 32 [] (1 ∷ []) 0
-    ∷ given 31 (0x07 ∷ bytes) (0 ∷ []) 0
-    ∷ given 31 bytes (0 ∷ 10 ∷ 0xff9b ∷ 0 ∷ []) 0
-    ∷ given 31 bytes (0 ∷ 10 ∷ 0xff9c ∷ []) 0
-    ∷ given 31 bytes (0 ∷ 10 ∷ 100 ∷ 1 ∷ []) 255
-    ∷ given 31 [] [] 256
+pub known-openings : map openingFor
+    (givenOf 31 threeRecords (0 ∷ 10 ∷ 0xff9c ∷ 0xffff_ffff ∷ []) 256
+    ∷ givenOf 32 [] (1 ∷ []) 0
+    ∷ givenOf 31 (0x07 ∷ threeRecords) (0 ∷ []) 0
+    ∷ givenOf 31 threeRecords (0 ∷ 10 ∷ 0xff9b ∷ 0 ∷ []) 0
+    ∷ givenOf 31 threeRecords (0 ∷ 10 ∷ 0xff9c ∷ []) 0
+    ∷ givenOf 31 threeRecords (0 ∷ 10 ∷ 100 ∷ 1 ∷ []) 255
+    ∷ givenOf 31 [] [] 256
     ∷ [])
     ≡ Passed ∷ Refused BadSetup ∷ Refused BadTable ∷ Refused BadValues ∷ Refused BadValues ∷ Refused ShortBuffer ∷ Passed ∷ []
 unfolding openingOf setupOk entryOf countOf signedOf numberOf atMost fitsIn isWithin entryOk entryAt entriesFrom entries countsOf risingFrom eachOk runOk runsOk
-known = refl
+known-openings = refl

@@ -21,7 +21,7 @@ use Rattle.request.specs.Request.{unusedZero, valueFits, taskFits, expre
 -- ---- tasks
 
 -- a task that can be asked: 0 with number, index, value 0, or one in an area
-pub record Idle (number index value : ℕ) : Type 0 where
+pub record AllZero (number index value : ℕ) : Type 0 where
   pub number-none : number ≡ 0
   pub index-none : index ≡ 0
   pub value-none : value ≡ 0
@@ -34,13 +34,13 @@ pub record Asked (pkw id number index value : ℕ) : Type 0 where
   pub values : valueFits (taskOf id .act) (taskOf id .width) pkw value ≡ true
 
 pub task-asked : (pkw id number index value : ℕ) → taskFits pkw id number index value ≡ true
-    → ((id ≡ 0) × Idle number index value) ⊎ Asked pkw id number index value
+    → ((id ≡ 0) × AllZero number index value) ⊎ Asked pkw id number index value
 unfolding taskFits
 task-asked pkw id number index value h = go (eqb id 0) refl h
   where
     go : (b : Bool) → eqb id 0 ≡ b
         → cond b (eqb number 0 && eqb index 0 && eqb value 0) (not (eqb pkw 0) && not (ltb 31999 number) && not (ltb 254 index) && valueFits (taskOf id .act) (taskOf id .width) pkw value) ≡ true
-        → ((id ≡ 0) × Idle number index value) ⊎ Asked pkw id number index value
+        → ((id ≡ 0) × AllZero number index value) ⊎ Asked pkw id number index value
     go true e f =
         let ni = eqb number 0 && eqb index 0 in
         let g = and-left ni (eqb value 0) f in
@@ -75,7 +75,7 @@ pub asked-id : (pkw id number index value : ℕ) → taskFits pkw id number inde
 unfolding valueFits
 asked-id pkw id number index value h = go (task-asked pkw id number index value h)
   where
-    go : ((id ≡ 0) × Idle number index value) ⊎ Asked pkw id number index value → id < 15
+    go : ((id ≡ 0) × AllZero number index value) ⊎ Asked pkw id number index value → id < 15
     go (inl e) = omega arith
     go (inr a) = low (decLt id 15)
       where

@@ -37,6 +37,18 @@ const BENCH_VALUES: [u32; 11] = [
 // K2: task 1, number 1082, words 047F 2000.
 const K2: [u8; 16] = *b"\x02\x0e\x03\x14\x3a\x00\x00\x00\x00\x00\x00\x04\x7f\x20\x00\x7a";
 
+// A sequence: change 1082, a broken change, read 1082, a broadcast, read element 1 of 2000.
+const CHANGE_1082: [u8; 16] = *b"\x02\x0e\x03\x24\x3a\x00\x00\x00\x00\x00\x2a\x0c\x7f\x30\x00\x78";
+
+const BROKEN_CHANGE: [u8; 16] =
+    *b"\x02\x0e\x03\x24\x3a\x00\x00\x00\x00\x00\x2b\x04\x7f\x20\x00\x00";
+
+const READ_1082: [u8; 16] = *b"\x02\x0e\x03\x14\x3a\x00\x00\x00\x00\x00\x00\x00\x00\x99\x99\x21";
+
+const SET_BITS: [u8; 16] = *b"\x02\x0e\x20\x00\x06\x04\x01\x00\x0f\x00\x00\x04\x00\x00\x0a\x2e";
+
+const READ_ELEMENT: [u8; 16] = *b"\x02\x0e\x03\x60\x00\x80\x01\x00\x00\x00\x00\x00\x00\x00\x00\xee";
+
 // ---- answers
 
 fn opening_number(fault: OpeningFault) -> u64 {
@@ -207,6 +219,11 @@ fn ask(node: u8, pkw: u8, pzd: u8, received: &[u8]) {
     );
 }
 
+// The same with the usual set-up.
+fn ask_usual(received: &[u8]) {
+    ask(3, 4, 2, received);
+}
+
 // The telegram of an area of pkw words and two process words, written into t: its length.
 fn build(t: &mut [u8], adr: u8, pkw: u8, area: Area, w1: u16, w2: u16) -> usize {
     let process = Words {
@@ -231,21 +248,21 @@ fn ask_first(of_drive: bool, pkw: u8, t: &[u8], n: usize) {
 }
 
 // A task with the words 047F 2000, to the drive.
-fn drive(pkw: u8, pke: u16, ind: u16, value: u32) {
+fn send_drive(pkw: u8, pke: u16, ind: u16, value: u32) {
     let mut t = [0u8; 256];
     let n = build(&mut t, 3, pkw, Area { pke, ind, value }, 0x047f, 0x2000);
     ask_first(true, pkw, &t, n);
 }
 
 // The same to the bench.
-fn bench(pkw: u8, pke: u16, ind: u16, value: u32) {
+fn send_bench(pkw: u8, pke: u16, ind: u16, value: u32) {
     let mut t = [0u8; 256];
     let n = build(&mut t, 3, pkw, Area { pke, ind, value }, 0x047f, 0x2000);
     ask_first(false, pkw, &t, n);
 }
 
 // A broadcast to the bench: selector, first mask, the words after it, two process words.
-fn broadcast(pkw: u8, selector: u16, mask: u16, rest: u32, w1: u16, w2: u16) {
+fn send_broadcast(pkw: u8, selector: u16, mask: u16, rest: u32, w1: u16, w2: u16) {
     let mut t = [0u8; 256];
     let area = Area {
         pke: selector,
@@ -263,7 +280,7 @@ fn longest_mirror() {
     t[1] = 254;
     t[2] = 0x43;
     t[255] = 0xbf;
-    ask(3, 4, 2, &t);
+    ask_usual(&t);
 }
 
 // LGE 255, with as many bytes as it says.
@@ -272,7 +289,7 @@ fn over_long() {
     t[0] = 2;
     t[1] = 255;
     t[2] = 3;
-    ask(3, 4, 2, &t);
+    ask_usual(&t);
 }
 
 fn usual() -> Setup {
@@ -328,61 +345,29 @@ fn open_buffer() {
     );
 }
 
+// A call with the usual set-up on the bench's table, from what the last one left.
+fn call_next(values: &mut [u32], control: Words, received: &[u8], reply: &mut [u8]) -> Words {
+    call(
+        usual(),
+        &BENCH,
+        values,
+        &BENCH_VALUES,
+        control,
+        received,
+        reply,
+    )
+}
+
 // Calls that each start from what the last one left.
 fn run_sequence() {
     let mut values = BENCH_VALUES;
     let mut reply = [0u8; 256];
     let mut control = start_control();
-    // then change 1082
-    control = call(
-        usual(),
-        &BENCH,
-        &mut values,
-        &BENCH_VALUES,
-        control,
-        b"\x02\x0e\x03\x24\x3a\x00\x00\x00\x00\x00\x2a\x0c\x7f\x30\x00\x78",
-        &mut reply,
-    );
-    // then broken
-    control = call(
-        usual(),
-        &BENCH,
-        &mut values,
-        &BENCH_VALUES,
-        control,
-        b"\x02\x0e\x03\x24\x3a\x00\x00\x00\x00\x00\x2b\x04\x7f\x20\x00\x00",
-        &mut reply,
-    );
-    // then read 1082
-    control = call(
-        usual(),
-        &BENCH,
-        &mut values,
-        &BENCH_VALUES,
-        control,
-        b"\x02\x0e\x03\x14\x3a\x00\x00\x00\x00\x00\x00\x00\x00\x99\x99\x21",
-        &mut reply,
-    );
-    // then broadcast
-    control = call(
-        usual(),
-        &BENCH,
-        &mut values,
-        &BENCH_VALUES,
-        control,
-        b"\x02\x0e\x20\x00\x06\x04\x01\x00\x0f\x00\x00\x04\x00\x00\x0a\x2e",
-        &mut reply,
-    );
-    // then read element 1
-    control = call(
-        usual(),
-        &BENCH,
-        &mut values,
-        &BENCH_VALUES,
-        control,
-        b"\x02\x0e\x03\x60\x00\x80\x01\x00\x00\x00\x00\x00\x00\x00\x00\xee",
-        &mut reply,
-    );
+    control = call_next(&mut values, control, &CHANGE_1082, &mut reply);
+    control = call_next(&mut values, control, &BROKEN_CHANGE, &mut reply);
+    control = call_next(&mut values, control, &READ_1082, &mut reply);
+    control = call_next(&mut values, control, &SET_BITS, &mut reply);
+    control = call_next(&mut values, control, &READ_ELEMENT, &mut reply);
 }
 
 fn main() {
@@ -410,204 +395,164 @@ fn main() {
 
 fn run_drive_reads() {
     // 000 read P0700
-    drive(4, 0x12bc, 0x0000, 0);
+    send_drive(4, 0x12bc, 0x0000, 0);
     // 000 read P1082
-    drive(4, 0x143a, 0x0000, 0);
+    send_drive(4, 0x143a, 0x0000, 0);
     // 000 read P2000
-    drive(4, 0x1000, 0x8000, 0);
+    send_drive(4, 0x1000, 0x8000, 0);
     // 000 read P2010 index 1
-    drive(4, 0x100a, 0x8001, 0);
+    send_drive(4, 0x100a, 0x8001, 0);
     // element 1 of P2010
-    drive(4, 0x600a, 0x8001, 0);
+    send_drive(4, 0x600a, 0x8001, 0);
     // elements of P2010
-    drive(4, 0x900a, 0x80ff, 0);
+    send_drive(4, 0x900a, 0x80ff, 0);
     // 000 read P0700, 3 words
-    drive(3, 0x12bc, 0x0000, 0);
+    send_drive(3, 0x12bc, 0x0000, 0);
 }
 
 fn run_drive_changes() {
     // 000 change P1082
-    drive(4, 0x343a, 0x0000, 0x42200000);
+    send_drive(4, 0x343a, 0x0000, 0x42200000);
     // 000 change P1082 as a word
-    drive(4, 0x243a, 0x0000, 0x42200000);
+    send_drive(4, 0x243a, 0x0000, 0x42200000);
     // 000 change and save P1082
-    drive(4, 0xd43a, 0x0000, 0x42200000);
+    send_drive(4, 0xd43a, 0x0000, 0x42200000);
     // 000 change P0700
-    drive(4, 0x22bc, 0x0000, 5);
+    send_drive(4, 0x22bc, 0x0000, 5);
     // 000 change P0700, 3 words
-    drive(3, 0x22bc, 0x0000, 5);
+    send_drive(3, 0x22bc, 0x0000, 5);
     // 002 change P554 index 1
-    drive(4, 0xc22a, 0x0001, 0x2100);
+    send_drive(4, 0xc22a, 0x0001, 0x2100);
 }
 
 fn run_known() {
     // K2
-    ask(3, 4, 2, &K2);
+    ask_usual(&K2);
     // K2 ending 7B
-    ask(
-        3,
-        4,
-        2,
-        b"\x02\x0e\x03\x14\x3a\x00\x00\x00\x00\x00\x00\x04\x7f\x20\x00\x7b",
-    );
+    ask_usual(b"\x02\x0e\x03\x14\x3a\x00\x00\x00\x00\x00\x00\x04\x7f\x20\x00\x7b");
     // K2 with LGE 0F
-    ask(
-        3,
-        4,
-        2,
-        b"\x02\x0f\x03\x14\x3a\x00\x00\x00\x00\x00\x00\x04\x7f\x20\x00\x7a",
-    );
+    ask_usual(b"\x02\x0f\x03\x14\x3a\x00\x00\x00\x00\x00\x00\x04\x7f\x20\x00\x7a");
     // K4 no such parameter
-    ask(
-        3,
-        4,
-        2,
-        b"\x02\x0e\x03\x14\x3b\x00\x00\x00\x00\x00\x00\x04\x7f\x20\x00\x7b",
-    );
+    ask_usual(b"\x02\x0e\x03\x14\x3b\x00\x00\x00\x00\x00\x00\x04\x7f\x20\x00\x7b");
     // K8 base 2000
-    ask(
-        3,
-        4,
-        2,
-        b"\x02\x0e\x03\x17\xd0\x00\x00\x00\x00\x00\x00\x04\x7f\x20\x00\x93",
-    );
+    ask_usual(b"\x02\x0e\x03\x17\xd0\x00\x00\x00\x00\x00\x00\x04\x7f\x20\x00\x93");
     // K9 broadcast
-    ask(
-        3,
-        4,
-        2,
-        b"\x02\x0e\x20\x00\x06\x04\x01\x00\x00\x00\x00\x04\x01\x20\x00\x0a",
-    );
+    ask_usual(b"\x02\x0e\x20\x00\x06\x04\x01\x00\x00\x00\x00\x04\x01\x20\x00\x0a");
     // K10 broadcast
-    ask(
-        3,
-        4,
-        2,
-        b"\x02\x0e\x20\x00\x02\xff\xff\x00\x00\x00\x00\x04\x7f\x20\x00\x75",
-    );
+    ask_usual(b"\x02\x0e\x20\x00\x02\xff\xff\x00\x00\x00\x00\x04\x7f\x20\x00\x75");
     // bits 11 of PKE and 11 to 8 of IND
-    ask(
-        3,
-        4,
-        2,
-        b"\x02\x0e\x03\x1c\x3a\x0f\x00\xff\xff\xff\xff\x04\x7f\x20\x00\x7d",
-    );
+    ask_usual(b"\x02\x0e\x03\x1c\x3a\x0f\x00\xff\xff\xff\xff\x04\x7f\x20\x00\x7d");
 }
 
 fn run_limits() {
     // K11 FF9C
-    bench(4, 0x2005, 0x0000, 0xff9c);
+    send_bench(4, 0x2005, 0x0000, 0xff9c);
     // K11 FF9B
-    bench(4, 0x2005, 0x0000, 0xff9b);
+    send_bench(4, 0x2005, 0x0000, 0xff9b);
     // K11 FF9C, 3 words
-    bench(3, 0xe005, 0x0000, 0xff9c);
+    send_bench(3, 0xe005, 0x0000, 0xff9c);
     // K11 FF9B, 3 words
-    bench(3, 0x2005, 0x0000, 0xff9b);
+    send_bench(3, 0x2005, 0x0000, 0xff9b);
     // double -5
-    bench(4, 0x8000, 0x1002, 0xfffffffb);
+    send_bench(4, 0x8000, 0x1002, 0xfffffffb);
     // double -6
-    bench(4, 0x8000, 0x1002, 0xfffffffa);
+    send_bench(4, 0x8000, 0x1002, 0xfffffffa);
     // word with a PWE1
-    bench(4, 0x243a, 0x0000, 0xffff0005);
+    send_bench(4, 0x243a, 0x0000, 0xffff0005);
 }
 
 fn run_arrays() {
     // K12 index 1 without array
-    bench(4, 0x643a, 0x0001, 0);
+    send_bench(4, 0x643a, 0x0001, 0);
     // K12 index 2 without array
-    bench(4, 0x643a, 0x0002, 0);
+    send_bench(4, 0x643a, 0x0002, 0);
     // K12 two elements, 1
-    bench(4, 0x7000, 0x8001, 0x21);
+    send_bench(4, 0x7000, 0x8001, 0x21);
     // K12 two elements, 2
-    bench(4, 0x7000, 0x8002, 0x21);
+    send_bench(4, 0x7000, 0x8002, 0x21);
     // index 2 without array, 3 words
-    bench(3, 0xc43a, 0x0002, 0x21);
+    send_bench(3, 0xc43a, 0x0002, 0x21);
     // two elements, 2, 3 words
-    bench(3, 0x6000, 0x8002, 0);
+    send_bench(3, 0x6000, 0x8002, 0);
     // array of one, index 1
-    bench(4, 0x67cf, 0xf001, 0);
+    send_bench(4, 0x67cf, 0xf001, 0);
     // elements of an array of one
-    bench(3, 0x97cf, 0xf0ff, 0);
+    send_bench(3, 0x97cf, 0xf0ff, 0);
 }
 
 fn run_pages() {
     // 1999
-    bench(4, 0x17cf, 0x0000, 0);
+    send_bench(4, 0x17cf, 0x0000, 0);
     // 2000
-    bench(4, 0x1000, 0x8000, 0);
+    send_bench(4, 0x1000, 0x8000, 0);
     // 4000, save element 1
-    bench(4, 0xb000, 0x1001, 4);
+    send_bench(4, 0xb000, 0x1001, 4);
     // 16000
-    bench(4, 0x1000, 0x4000, 0);
+    send_bench(4, 0x1000, 0x4000, 0);
     // 31999
-    bench(4, 0x67cf, 0xf000, 0);
+    send_bench(4, 0x67cf, 0xf000, 0);
     // 2000 by base 0 of page 0
-    bench(4, 0x1000, 0x0000, 0);
+    send_bench(4, 0x1000, 0x0000, 0);
     // task 0
-    bench(4, 0x0fff, 0xffff, 0x10002);
+    send_bench(4, 0x0fff, 0xffff, 0x10002);
 }
 
 fn run_errors_4() {
     // 106 task 4
-    bench(4, 0x443a, 0x0000, 0);
+    send_bench(4, 0x443a, 0x0000, 0);
     // 106 task 15, 3 words
-    bench(3, 0xf7cf, 0x0000, 0);
+    send_bench(3, 0xf7cf, 0x0000, 0);
     // 0 before 106
-    bench(4, 0x543b, 0x0000, 0);
+    send_bench(4, 0x543b, 0x0000, 0);
     // 5 double task on a word
-    bench(4, 0x343a, 0x0000, 1);
+    send_bench(4, 0x343a, 0x0000, 1);
     // 5 word task on a double
-    bench(4, 0x27cf, 0x0000, 1);
+    send_bench(4, 0x27cf, 0x0000, 1);
     // 1 word not writable
-    bench(4, 0x2000, 0x4000, 1);
+    send_bench(4, 0x2000, 0x4000, 1);
     // 1 double not writable
-    bench(4, 0x3001, 0x4000, 1);
+    send_bench(4, 0x3001, 0x4000, 1);
     // 2 double outside
-    bench(4, 0xd000, 0x1000, 6);
+    send_bench(4, 0xd000, 0x1000, 6);
 }
 
 fn run_errors_3() {
     // 102 read
-    bench(3, 0x17cf, 0x0000, 0);
+    send_bench(3, 0x17cf, 0x0000, 0);
     // 102 change, not writable
-    bench(3, 0x3001, 0x4000, 1);
+    send_bench(3, 0x3001, 0x4000, 1);
     // 5 before 102
-    bench(3, 0x27cf, 0x0000, 1);
+    send_bench(3, 0x27cf, 0x0000, 1);
     // 5 double task on a word, 3 words
-    bench(3, 0xd43a, 0x0000, 1);
+    send_bench(3, 0xd43a, 0x0000, 1);
     // 1 not writable, 3 words
-    bench(3, 0x2000, 0x4000, 1);
+    send_bench(3, 0x2000, 0x4000, 1);
     // 3 before 102
-    bench(3, 0x6000, 0x1003, 0);
+    send_bench(3, 0x6000, 0x1003, 0);
     // task 9 on a double, 3 words
-    bench(3, 0x9000, 0x1000, 0);
+    send_bench(3, 0x9000, 0x1000, 0);
     // 0, 3 words
-    bench(3, 0x143b, 0x0000, 0);
+    send_bench(3, 0x143b, 0x0000, 0);
 }
 
 fn run_errors_double() {
     // 106 task 10 on a double
-    bench(4, 0xa7cf, 0x0000, 0);
+    send_bench(4, 0xa7cf, 0x0000, 0);
     // 106 task 5 on a word, 3 words
-    bench(3, 0x543a, 0x0000, 0);
+    send_bench(3, 0x543a, 0x0000, 0);
     // 4 double, index 2
-    bench(4, 0x67cf, 0x0002, 0);
+    send_bench(4, 0x67cf, 0x0002, 0);
     // 4 double, index 2, before 102
-    bench(3, 0x87cf, 0x0002, 0);
+    send_bench(3, 0x87cf, 0x0002, 0);
     // 3 double, index 3
-    bench(4, 0x8000, 0x1003, 0);
+    send_bench(4, 0x8000, 0x1003, 0);
     // 1 double not writable, save
-    bench(4, 0xd001, 0x4000, 1);
+    send_bench(4, 0xd001, 0x4000, 1);
 }
 
 fn run_process() {
     // 000 words 047E 3333
-    ask(
-        3,
-        4,
-        2,
-        b"\x02\x0e\x03\x00\x00\x00\x00\x00\x00\x00\x00\x04\x7e\x33\x33\x75",
-    );
+    ask_usual(b"\x02\x0e\x03\x00\x00\x00\x00\x00\x00\x00\x00\x04\x7e\x33\x33\x75");
     // PZD 0
     ask(3, 4, 0, b"\x02\x0a\x03\x14\x3a\x00\x00\x00\x00\x00\x00\x25");
     // PZD 1
@@ -627,105 +572,65 @@ fn run_process() {
         b"\x02\x10\x03\x14\x3a\x00\x00\x00\x00\xff\xff\x00\x01\x00\x02\x00\x03\x3f",
     );
     // bit 10 clear, and a change
-    ask(
-        3,
-        4,
-        2,
-        b"\x02\x0e\x03\x24\x3a\x00\x00\x00\x00\x00\x4d\xfb\xff\x20\x00\x78",
-    );
+    ask_usual(b"\x02\x0e\x03\x24\x3a\x00\x00\x00\x00\x00\x4d\xfb\xff\x20\x00\x78");
     // bit 10 set, and an error
-    ask(
-        3,
-        4,
-        2,
-        b"\x02\x0e\x03\x24\x3a\x00\x00\x00\x00\x27\x11\x04\x00\x20\x00\x03",
-    );
+    ask_usual(b"\x02\x0e\x03\x24\x3a\x00\x00\x00\x00\x27\x11\x04\x00\x20\x00\x03");
 }
 
 fn run_mirrors() {
     // 1 net byte
-    ask(3, 4, 2, b"\x02\x03\x43\x55\x17");
+    ask_usual(b"\x02\x03\x43\x55\x17");
     // 252 net bytes
     longest_mirror();
     // another node's mirror
-    ask(3, 4, 2, b"\x02\x03\x44\x55\x10");
+    ask_usual(b"\x02\x03\x44\x55\x10");
 }
 
 fn run_frames() {
     // 10
-    ask(3, 4, 2, b"\x02\x03\x03\x00");
+    ask_usual(b"\x02\x03\x03\x00");
     // 11
-    ask(3, 4, 2, b"\x03\x03\x03\x00\x03");
+    ask_usual(b"\x03\x03\x03\x00\x03");
     // 12 LGE 2
-    ask(3, 4, 2, b"\x02\x02\x03\x00\x03");
+    ask_usual(b"\x02\x02\x03\x00\x03");
     // 12 LGE 255
     over_long();
     // 13
-    ask(
-        3,
-        4,
-        2,
-        b"\x02\xfe\x00\x00\x00\x00\x00\x00\x00\x00\x00\x00\x00\x00\x00\x00",
-    );
+    ask_usual(b"\x02\xfe\x00\x00\x00\x00\x00\x00\x00\x00\x00\x00\x00\x00\x00\x00");
     // 14
-    ask(3, 4, 2, b"\x02\x03\x03\x00\x03");
+    ask_usual(b"\x02\x03\x03\x00\x03");
     // 15 bit 7
-    ask(3, 4, 2, b"\x02\x03\x83\x00\x82");
+    ask_usual(b"\x02\x03\x83\x00\x82");
     // 15 bits 5 and 6
-    ask(3, 4, 2, b"\x02\x03\x63\x00\x62");
+    ask_usual(b"\x02\x03\x63\x00\x62");
 }
 
 fn run_addresses() {
     // 16
-    ask(
-        3,
-        4,
-        2,
-        b"\x02\x0e\x04\x14\x3a\x00\x00\x00\x00\x00\x00\x04\x7f\x20\x00\x7d",
-    );
+    ask_usual(b"\x02\x0e\x04\x14\x3a\x00\x00\x00\x00\x00\x00\x04\x7f\x20\x00\x7d");
     // 17
-    ask(
-        3,
-        4,
-        2,
-        b"\x02\x0c\x03\x14\x3a\x00\x00\x00\x00\x04\x7f\x20\x00\x78",
-    );
+    ask_usual(b"\x02\x0c\x03\x14\x3a\x00\x00\x00\x00\x04\x7f\x20\x00\x78");
     // 17 odd
-    ask(
-        3,
-        4,
-        2,
-        b"\x02\x0f\x03\x14\x3a\x00\x00\x00\x00\x00\x00\x04\x7f\x20\x00\x00\x7b",
-    );
+    ask_usual(b"\x02\x0f\x03\x14\x3a\x00\x00\x00\x00\x00\x00\x04\x7f\x20\x00\x00\x7b");
     // 17 broadcast
-    ask(
-        3,
-        4,
-        2,
-        b"\x02\x0c\x20\x00\x02\xff\xff\x00\x00\x00\x00\x04\x7f\x57",
-    );
+    ask_usual(b"\x02\x0c\x20\x00\x02\xff\xff\x00\x00\x00\x00\x04\x7f\x57");
     // broadcast with node 31
-    ask(
-        3,
-        4,
-        2,
-        b"\x02\x0e\x3f\x00\x02\x04\x00\x00\x00\x00\x00\x04\x00\x00\x00\x31",
-    );
+    ask_usual(b"\x02\x0e\x3f\x00\x02\x04\x00\x00\x00\x00\x00\x04\x00\x00\x00\x31");
 }
 
 fn run_void() {
     // selector FFFF
-    broadcast(4, 0xffff, 0xffff, 0xffffffff, 0x047f, 0x2000);
+    send_broadcast(4, 0xffff, 0xffff, 0xffffffff, 0x047f, 0x2000);
     // selector 4
-    broadcast(4, 4, 0xffff, 0xffff0000, 0x047f, 0x2000);
+    send_broadcast(4, 4, 0xffff, 0xffff0000, 0x047f, 0x2000);
     // selector 3
-    broadcast(4, 3, 0xffff, 0xffff0000, 0x047f, 0x2000);
+    send_broadcast(4, 3, 0xffff, 0xffff0000, 0x047f, 0x2000);
     // mask without bit 10
-    broadcast(4, 2, 0xfbff, 0, 0x047f, 0x2000);
+    send_broadcast(4, 2, 0xfbff, 0, 0x047f, 0x2000);
     // word without bit 10
-    broadcast(4, 2, 0xffff, 0, 0xfbff, 0x0000);
+    send_broadcast(4, 2, 0xffff, 0, 0xfbff, 0x0000);
     // fourth word 1
-    broadcast(4, 2, 0xffff, 1, 0x047f, 0x2000);
+    send_broadcast(4, 2, 0xffff, 1, 0x047f, 0x2000);
     // no area
     ask(3, 0, 2, b"\x02\x06\x20\xff\xff\xff\xff\x24");
 }
@@ -753,7 +658,7 @@ fn run_broadcasts() {
         b"\x02\x0c\x20\x00\x02\xff\xff\xff\xff\x00\x00\x84\x00\xa8",
     );
     // both words, 3 words
-    broadcast(3, 6, 0x0f00, 0xff, 0x0500, 0xabcd);
+    send_broadcast(3, 6, 0x0f00, 0xff, 0x0500, 0xabcd);
     // PZD 4
     ask(
         3,

@@ -36,9 +36,9 @@ not-both x y e = go (eqb x 0) (eqb y 0) refl refl e
     go true false p q h = let n = eqb-false y 0 q in omega arith
     go false b p q h = let n = eqb-false x 0 p in omega arith
 
-pub configured : (s : Setup) → setupOk s ≡ true → Configured s
+pub ok-configured : (s : Setup) → setupOk s ≡ true → Configured s
 unfolding setupOk
-configured s e =
+ok-configured s e =
     let a = ltb 31 (s .node) in
     let b = not (eqb (s .pkw) 0 || eqb (s .pkw) 3 || eqb (s .pkw) 4) in
     let c = ltb 4 (s .pzd) in

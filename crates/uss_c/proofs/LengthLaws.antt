@@ -12,7 +12,7 @@ use Rattle.words.specs.Words.{Bytes}
 use Rattle.words.specs.declared.Words.{Words}
 use Rattle.setup.specs.declared.Setup.{Setup}
 use Rattle.setup.specs.SetupRules.{setupOk, netBytes}
-use Rattle.setup.proofs.SetupLaws.{Configured, configured, area-few}
+use Rattle.setup.proofs.SetupLaws.{Configured, ok-configured, area-few}
 use Rattle.frame.specs.Address.{decodedOf}
 use Rattle.frame.specs.declared.Decoded.{Decoded}
 use Rattle.frame.specs.declared.Decoded.the-variants.{Normal, Mirror, Broadcast, Refused as Unread}
@@ -26,7 +26,7 @@ use Rattle.net.proofs.NetLaws.{length-net}
 use Rattle.opening.specs.declared.Opening.{Opening}
 use Rattle.opening.specs.declared.Opening.the-variants.{Passed, Refused as Closed}
 use Rattle.opening.specs.Answers.{openingOf}
-use Rattle.opening.proofs.AnswersLaws.{opened}
+use Rattle.opening.proofs.AnswersLaws.{passed-opened}
 use Rattle.broadcast.specs.Broadcast.{isVoid, controlAfter}
 use Rattle.slave.specs.declared.Served.{Served}
 use Rattle.slave.specs.declared.Answer.the-variants.{Mirrored, Taken}
@@ -88,7 +88,7 @@ module _ (s : Setup) (t vs : List ℕ) (control status : Words) (rx out : List �
   opened-most : (o : Opening) → openingOf s t vs (length out) ≡ o → callOpened o s t vs control status rx out .served .length ≤ 256
   opened-most Passed e =
       rw (executed s t vs control status rx out (decodedOf rx) refl)
-      (executed-most (configured s (opened s t vs (length out) e .setup-good)) (decodedOf rx) refl)
+      (executed-most (ok-configured s (passed-opened s t vs (length out) e .setup-good)) (decodedOf rx) refl)
   opened-most (Closed fault) e = lit≤ tt
 
   pub call-most : callOf s t vs control status rx out .served .length ≤ 256
@@ -112,7 +112,7 @@ built-most s r net out = go (setupOk s) (expressible s r net) (ltb (length out) 
     go false b c e f = lit≤ tt
     go true false c e f = lit≤ tt
     go true true true e f = lit≤ tt
-    go true true false e f = request-most s r net (configured s e) f
+    go true true false e f = request-most s r net (ok-configured s e) f
 
 -- ---- the listing
 

@@ -64,8 +64,8 @@ shared-slice-read-if6 c = search needs
 shared-slice-read-if6-2 : tie.Need-shared-slice-read-if6-2
 shared-slice-read-if6-2 c = search needs
 
-counted : (c : tie.After-bcc) → Counted (c .before .before .before .before .before .before .before .before .before .before .args .received .now)
-counted c =
+past-tests : (c : tie.After-bcc) → Counted (c .before .before .before .before .before .before .before .before .before .before .args .received .now)
+past-tests c =
     let d = c .before .before in
     record {
       long = d .before .before .before .before .before .before .if1 .left;
@@ -78,14 +78,14 @@ counted c =
 returns-6 : tie.Need-returns-6
 returns-6 c =
     let b = c .before .before .before in
-    let k = counted b in
+    let k = past-tests b in
     let e = last-counted _ k in
     sym (check-wrong _ k (λ w. c .if6 .taken (rw (e, b .bcc .ensures) (w ∙ sym (reckoned _ k)))))
 
 returns-7 : tie.Need-returns-7
 returns-7 c =
     let b = c .before .before .before in
-    let k = counted b in
+    let k = past-tests b in
     let e = last-counted _ k in
     rw e (sym (check-right _ k (rw (e, b .bcc .ensures) at (c .if6 .left) ∙ reckoned _ k)))
 

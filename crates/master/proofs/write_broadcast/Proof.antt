@@ -8,7 +8,7 @@ use borrow.Author.Tests.{eq-eqb, ne-eqb}
 use lib.Dec.{eqb}
 use Rattle.net.specs.declared.Area.{Area}
 use Rattle.net.proofs.NetLaws.{telegram-sent}
-use Rattle.setup.proofs.SetupLaws.{configured, area-few}
+use Rattle.setup.proofs.SetupLaws.{ok-configured, area-few}
 use Rattle.master.specs.Build.{commandArea}
 use borrow.Author.Needs.{needs}
 use Rattle.master.proofs.write_broadcast.Statement.{statement}
@@ -33,7 +33,7 @@ returns c =
     let j = w .before .before in
     let s = j .before .before .before in
     let a = s .args in
-    let f = configured (a .setup) (s .pre .0) in
+    let f = ok-configured (a .setup) (s .pre .0) in
     let e : j .if1 .value ≡ cond (eqb (a .setup .pkw) 4) (a .mask2 * 65536) (a .mask2) =
     ⊎-elim (λ x. rw (eq-eqb _ _ (x .0 .taken)) (x .1)) (λ x. rw (ne-eqb _ _ (x .0 .left)) (x .1)) (j .if1 .came) in
     let area : Area = record { pke = a .selector; ind = a .mask1; value = j .if1 .value } in

@@ -2,7 +2,7 @@
 use mathlib.Core.Path.{_≡_}
 use mathlib.Core.Bool.{true}
 use native.Mathlib.Omega.{arith}
-use Rattle.setup.proofs.SetupLaws.{configured}
+use Rattle.setup.proofs.SetupLaws.{ok-configured}
 use Rattle.request.specs.Request.{expressible}
 use Rattle.request.proofs.RequestLaws.{task-id, mirror-asked}
 use Rattle.master.specs.Build.{telegramFor}
@@ -33,7 +33,7 @@ write-mirror-requires c κs =
     let s = c .before .before .before .before .before in
     let a = s .args in
     let m = mirror-asked (a .setup) (a .net .now) (rw (c .before .enum-told .given .1) at (s .pre .1)) in
-    (configured (a .setup) (s .pre .0) .nodes, s .pre .2, m .0, m .1)
+    (ok-configured (a .setup) (s .pre .0) .nodes, s .pre .2, m .0, m .1)
 
 enum-known-request-2 : tie.Need-enum-known-request-2
 enum-known-request-2 c = search needs

@@ -10,7 +10,7 @@ use borrow.Author.Needs.{needs}
 use denote.Ref.{now}
 use Rattle.entry.specs.declared.Entry.{Entry}
 use Rattle.entry.specs.Fields.{countOf}
-use Rattle.entry.proofs.LimitsLaws.{ruled}
+use Rattle.entry.proofs.LimitsLaws.{ok-ruled}
 use Rattle.words.specs.Words.{doubleAt}
 use Rattle.table.specs.Records.{entryAt, entriesFrom}
 use Rattle.table.proofs.RecordsLaws.{entries-step, entries-end, count-at-le}
@@ -90,7 +90,7 @@ add-least : tie.Need-add-least Inv-loop μ-loop
 add-least c =
     let r = c .before .before .before in
     let vs = now (r .before .before .before .before .before .before .before .before .before .args .values) in
-    let f = ruled _ (fine-entry _ vs _ _ (r .check-record .ensures .0) (not-false _ (c .before .if2 .left))) in
+    let f = ok-ruled _ (fine-entry _ vs _ _ (r .check-record .ensures .0) (not-false _ (c .before .if2 .left))) in
     omega arith
 
 add-k : tie.Need-add-k Inv-loop μ-loop

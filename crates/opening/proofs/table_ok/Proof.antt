@@ -9,7 +9,7 @@ use borrow.Author.Tests.{not-true, not-false}
 use denote.Ref.{now}
 use Rattle.entry.specs.declared.Entry.{Entry}
 use Rattle.entry.specs.Fields.{countOf}
-use Rattle.entry.proofs.LimitsLaws.{ruled}
+use Rattle.entry.proofs.LimitsLaws.{ok-ruled}
 use Rattle.table.specs.Records.{entryAt, entriesFrom}
 use Rattle.table.proofs.RecordsLaws.{entries-step, entries-end, count-at-le}
 use Rattle.opening.specs.Rules.{tableOk}
@@ -46,8 +46,8 @@ left c =
     l .loop .inv .2 ∙ ap (λ (es : List Entry). ruledFrom es (l .loop .least) (l .loop .place)) step ∙ rw (is-record c)
 
 -- its places are at most 255
-counted : (c : tie.After-count-places Inv-loop μ-loop) → c .count-places .result ≤ 255
-counted c =
+places-few : (c : tie.After-count-places Inv-loop μ-loop) → c .count-places .result ≤ 255
+places-few c =
     let d = c .before .before .before .before .before .before in
     let l = d .before .before .before in
     let e = c .count-places .ensures ∙ ap countOf (is-record d) in
@@ -78,14 +78,14 @@ returns-2 c =
 add-least : tie.Need-add-least Inv-loop μ-loop
 add-least c =
     let o = c .before .before in
-    let f = ruled _ (sym (o .entry-ok .ensures) ∙ not-false _ (c .before .if2 .left)) in
+    let f = ok-ruled _ (sym (o .entry-ok .ensures) ∙ not-false _ (c .before .if2 .left)) in
     omega arith
 
 count-places-requires : tie.Need-count-places-requires Inv-loop μ-loop
 count-places-requires c κs = search needs
 
 add-place : tie.Need-add-place Inv-loop μ-loop
-add-place c = let h = counted c in omega arith
+add-place c = let h = places-few c in omega arith
 
 add-k : tie.Need-add-k Inv-loop μ-loop
 add-k c = omega arith
@@ -98,7 +98,7 @@ loop-again c =
     let l = c .before .before in
     let o = l .before in
     let d = o .before .before .before in
-    let h = counted c in
+    let h = places-few c in
     let ok = sym (o .entry-ok .ensures) ∙ not-false _ (l .if2 .left) in
     (omega arith, omega arith, left d ∙ rule-on _ _ _ _ (o .before .if1 .left) ok ∙ rw (← (c .count-places .ensures)))
 

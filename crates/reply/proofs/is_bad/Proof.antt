@@ -14,8 +14,8 @@ use Rattle.reply.proofs.is_misfit.Reads as is-misfit-reads
 use Rattle.reply.proofs.is_not_empty.Reads as is-not-empty-reads
 use Rattle.reply.proofs.is_other.Reads as is-other-reads
 
-known : (c : tie.After-is-known) → not (c .is-known .result) ≡ false → (let a = c .before .before .before .args in knownId (a .id) (a .area .pke / 4096) ≡ true)
-known c h = sym (c .is-known .ensures) ∙ not-false _ h
+reply-known : (c : tie.After-is-known) → not (c .is-known .result) ≡ false → (let a = c .before .before .before .args in knownId (a .id) (a .area .pke / 4096) ≡ true)
+reply-known c h = sym (c .is-known .ensures) ∙ not-false _ h
 
 is-not-empty-requires : tie.Need-is-not-empty-requires
 is-not-empty-requires c κs = search needs
@@ -41,7 +41,7 @@ returns-3 : tie.Need-returns-3
 unfolding badReply
 returns-3 c =
     let k = c .before .before .before in
-    sym (rw (ne-eqb _ _ (k .before .before .if1 .left), known k (c .before .before .if2 .left), sym (c .before .is-misfit .ensures) ∙ c .if3 .taken))
+    sym (rw (ne-eqb _ _ (k .before .before .if1 .left), reply-known k (c .before .before .if2 .left), sym (c .before .is-misfit .ensures) ∙ c .if3 .taken))
 
 is-other-requires : tie.Need-is-other-requires
 is-other-requires c κs = search needs
@@ -51,7 +51,7 @@ unfolding badReply
 returns-4 c =
     let m = c .before .before .before in
     let k = m .before .before in
-    sym (rw (ne-eqb _ _ (k .before .before .if1 .left), known k (m .before .if2 .left), sym (m .is-misfit .ensures) ∙ c .before .before .if3 .left, sym (c .before .is-other .ensures) ∙ c .if4 .taken))
+    sym (rw (ne-eqb _ _ (k .before .before .if1 .left), reply-known k (m .before .if2 .left), sym (m .is-misfit .ensures) ∙ c .before .before .if3 .left, sym (c .before .is-other .ensures) ∙ c .if4 .taken))
 
 returns-5 : tie.Need-returns-5
 unfolding badReply
@@ -59,7 +59,7 @@ returns-5 c =
     let o = c .before .before .before in
     let m = o .before .before in
     let k = m .before .before in
-    sym (rw (ne-eqb _ _ (k .before .before .if1 .left), known k (m .before .if2 .left), sym (m .is-misfit .ensures) ∙ o .before .if3 .left, sym (o .is-other .ensures) ∙ c .before .before .if4 .left, eq-eqb _ _ (c .before .if5 .taken)))
+    sym (rw (ne-eqb _ _ (k .before .before .if1 .left), reply-known k (m .before .if2 .left), sym (m .is-misfit .ensures) ∙ o .before .if3 .left, sym (o .is-other .ensures) ∙ c .before .before .if4 .left, eq-eqb _ _ (c .before .if5 .taken)))
 
 returns-6 : tie.Need-returns-6
 unfolding badReply
@@ -67,7 +67,7 @@ returns-6 c =
     let o = c .before .before in
     let m = o .before .before in
     let k = m .before .before in
-    sym (rw (ne-eqb _ _ (k .before .before .if1 .left), known k (m .before .if2 .left), sym (m .is-misfit .ensures) ∙ o .before .if3 .left, sym (o .is-other .ensures) ∙ c .before .if4 .left, ne-eqb _ _ (c .if5 .left)))
+    sym (rw (ne-eqb _ _ (k .before .before .if1 .left), reply-known k (m .before .if2 .left), sym (m .is-misfit .ensures) ∙ o .before .if3 .left, sym (o .is-other .ensures) ∙ c .before .if4 .left, ne-eqb _ _ (c .if5 .left)))
 
 pub is-bad-spec : {M : Type 1} → statement M
 is-bad-spec =

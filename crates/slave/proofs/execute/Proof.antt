@@ -3,7 +3,7 @@ use mathlib.Core.Path.{refl, sym, _∙_}
 use native.Mathlib.Omega.{arith}
 use lib.ListN.{length}
 use Rattle.frame.proofs.DecodedLaws.{telegram-framed, normal-bounds}
-use Rattle.opening.proofs.AnswersLaws.{opened}
+use Rattle.opening.proofs.AnswersLaws.{passed-opened}
 use Rattle.slave.proofs.CaseLaws.{executed}
 use borrow.Author.Needs.{needs}
 use Rattle.slave.proofs.execute.Statement.{statement}
@@ -34,7 +34,7 @@ serve-mirror-requires c κs =
     let a = d .before .before .before .before .before .args in
     let e = sym (d .decode .ensures) ∙ c .before .before .node .given .1 in
     let f = telegram-framed (a .received .now) _ e refl in
-    let o = opened (a .setup) (a .table .now) (a .values .now) (length (a .reply .now)) (d .before .before .before .before .before .pre) in
+    let o = passed-opened (a .setup) (a .table .now) (a .values .now) (length (a .reply .now)) (d .before .before .before .before .before .pre) in
     omega (arith, f .counted .count, f .counted .high, o .buffer)
 
 enum-told : tie.Need-enum-told

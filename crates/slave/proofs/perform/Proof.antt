@@ -24,17 +24,17 @@ use Rattle.table.proofs.find.Reads as find-reads
 use Rattle.task.proofs.full_number.Reads as full-number-reads
 use Rattle.task.proofs.task_of.Reads as task-of-reads
 
-performed : (c : tie.After-task-of) → (let a = c .before .before .before .before .args in performOf (a .n) (a .table .now) (a .values .now) (a .area) ≡ performTask (a .n) (c .task-of .result) (a .table .now) (a .values .now) (a .area))
+perform-is : (c : tie.After-task-of) → (let a = c .before .before .before .before .args in performOf (a .n) (a .table .now) (a .values .now) (a .area) ≡ performTask (a .n) (c .task-of .result) (a .table .now) (a .values .now) (a .area))
 unfolding performOf
-performed c =
+perform-is c =
     let a = c .before .before .before .before .args in
     ap (λ (k : Task). performTask (a .n) k (a .table .now) (a .values .now) (a .area)) (sym (c .task-of .ensures))
 
 busy : (c : tie.Else1) → idle (c .before .before .task-of .result .act) ≡ false
 busy c = sym (c .before .is-idle .ensures) ∙ c .if1 .left
 
-found : (c : tie.After-find) → (let a = c .before .before .before .before .before .before .before .before .before .before .args in findIn (a .table .now) (fullNumber (a .area .pke) (a .area .ind)) ≡ c .find .result)
-found c = sym (c .find .ensures ∙ rw (c .before .full-number .ensures))
+find-gives : (c : tie.After-find) → (let a = c .before .before .before .before .before .before .before .before .before .before .args in findIn (a .table .now) (fullNumber (a .area .pke) (a .area .ind)) ≡ c .find .result)
+find-gives c = sym (c .find .ensures ∙ rw (c .before .full-number .ensures))
 
 cast-id : tie.Need-cast-id
 cast-id c = search needs
@@ -49,7 +49,7 @@ returns : tie.Need-returns
 returns c =
     let d = c .before .before in
     let a = d .before .before .before .before .args in
-    rw (performed d ∙ task-idle (a .n) (d .task-of .result) (a .table .now) (a .values .now) (a .area) (sym (c .before .is-idle .ensures) ∙ c .if1 .taken))
+    rw (perform-is d ∙ task-idle (a .n) (d .task-of .result) (a .table .now) (a .values .now) (a .area) (sym (c .before .is-idle .ensures) ∙ c .if1 .taken))
     (record { area-is = refl; values-are = refl })
 
 reply-area-requires : tie.Need-reply-area-requires
@@ -60,7 +60,7 @@ returns-2 c =
     let i = c .before .before .before in
     let d = i .before .before in
     let a = d .before .before .before .before .args in
-    rw (performed d ∙ task-unnamed (a .n) (d .task-of .result) (a .table .now) (a .values .now) (a .area) (busy i) (c .before .if2 .taken))
+    rw (perform-is d ∙ task-unnamed (a .n) (d .task-of .result) (a .table .now) (a .values .now) (a .area) (busy i) (c .before .if2 .taken))
     (record { area-is = c .reply-area .ensures; values-are = refl })
 
 full-number-requires : tie.Need-full-number-requires
@@ -79,20 +79,20 @@ enum-known-k : tie.Need-enum-known-k
 enum-known-k c = search needs
 
 read-record-requires : tie.Need-read-record-requires
-read-record-requires c κs = let f = c .before .before .before in found-whole _ _ _ (found f ∙ c .before .k .given .1)
+read-record-requires c κs = let f = c .before .before .before in found-whole _ _ _ (find-gives f ∙ c .before .k .given .1)
 
 first-place-requires : tie.Need-first-place-requires
 first-place-requires c κs =
     let f = c .before .before .before .before in
     let a = f .before .before .before .before .before .before .before .before .before .before in
-    let h = found-whole (a .args .table .now) _ _ (found f ∙ c .before .before .k .given .1) in
+    let h = found-whole (a .args .table .now) _ _ (find-gives f ∙ c .before .before .k .given .1) in
     (omega arith, omega (arith, a .pre .0), a .pre .1)
 
 perform-on-requires : tie.Need-perform-on-requires
 perform-on-requires c κs =
     let f = c .before .before .before .before .before .before in
     let a = f .before .before .before .before .before .before .before .before .before .before in
-    let e = found f ∙ c .before .before .before .before .k .given .1 in (
+    let e = find-gives f ∙ c .before .before .before .before .k .given .1 in (
       rw (f .before .before .before .before .before .before .task-of .ensures) (omega (arith, reply-small (a .args .area .pke / 4096))),
       rw (c .before .before .read-record .ensures, c .before .first-place .ensures) (omega (arith, found-fits (a .args .table .now) _ _ e, a .pre .1)),
     )
@@ -102,7 +102,7 @@ returns-3 c =
     let f = c .before .before .before in
     let d = f .before .before .before .before .before .before in
     let a = d .before .before .before .before .args in
-    rw (performed d ∙ task-found (a .n) (d .task-of .result) (a .table .now) (a .values .now) (a .area) Nothing (busy (f .before .before .before .before)) (f .before .before .if2 .left) (found f ∙ c .before .enum-told .given .1))
+    rw (perform-is d ∙ task-found (a .n) (d .task-of .result) (a .table .now) (a .values .now) (a .area) Nothing (busy (f .before .before .before .before)) (f .before .before .if2 .left) (find-gives f ∙ c .before .enum-told .given .1))
     (record { area-is = c .reply-area2 .ensures; values-are = refl })
 
 same-length : tie.Need-same-length
@@ -116,7 +116,7 @@ returns-4 c =
     let d = f .before .before .before .before .before .before in
     let a = d .before .before .before .before .args in
     rw (
-      performed d ∙ task-found (a .n) (d .task-of .result) (a .table .now) (a .values .now) (a .area) _ (busy (f .before .before .before .before)) (f .before .before .if2 .left) (found f ∙ g .before .before .before .k .given .1),
+      perform-is d ∙ task-found (a .n) (d .task-of .result) (a .table .now) (a .values .now) (a .area) _ (busy (f .before .before .before .before)) (f .before .before .if2 .left) (find-gives f ∙ g .before .before .before .k .given .1),
       ← (g .before .read-record .ensures),
       ← (g .first-place .ensures),
     )

@@ -15,8 +15,8 @@ use Rattle.task.proofs.judge.Reads as judge-reads
 use Rattle.task.proofs.number_error.Reads as number-error-reads
 use Rattle.task.proofs.pick_element.Reads as pick-element-reads
 
-verdict : (c : tie.After-judge) → (let a = c .before .before .before .before .before .args in c .judge .result ≡ verdictFor (a .n) (a .task) (a .area) (a .e))
-verdict c = c .judge .ensures ∙ rw (c .before .is-inside .ensures, c .before .before .carry .ensures) (verdict-inside _ _ _ _ _ _ _ _ _)
+judge-gives : (c : tie.After-judge) → (let a = c .before .before .before .before .before .args in c .judge .result ≡ verdictFor (a .n) (a .task) (a .area) (a .e))
+judge-gives c = c .judge .ensures ∙ rw (c .before .is-inside .ensures, c .before .before .carry .ensures) (verdict-inside _ _ _ _ _ _ _ _ _)
 
 cast-index : tie.Need-cast-index
 cast-index c = search needs
@@ -59,14 +59,14 @@ run-act-requires c κs =
     let j = c .before .before .before .before in
     let a = j .before .before .before .before .before in
     let t = a .args .task in
-    let g = sym (verdict j) ∙ c .before .before .enum-told .given .1 in
+    let g = sym (judge-gives j) ∙ c .before .before .enum-told .given .1 in
     (a .pre .0, rw (c .before .pick-element .ensures) (granted-place (a .args .n) (a .args .task) (a .args .area) (a .args .e) (a .args .values .now) (a .args .first) g (a .pre .1)))
 
 returns : tie.Need-returns
 returns c =
     let j = c .before .before .before .before .before in
     let a = j .before .before .before .before .before .args in
-    let d = task-denied (a .n) (a .task) (a .area) (a .e) (a .values .now) (a .first) _ (sym (verdict j) ∙ c .before .before .before .verdict .given .1) in
+    let d = task-denied (a .n) (a .task) (a .area) (a .e) (a .values .now) (a .first) _ (sym (judge-gives j) ∙ c .before .before .before .verdict .given .1) in
     rw d (record { area-is = c .reply-area .ensures ∙ rw (c .before .number-error .ensures); values-are = refl })
 
 same-length : tie.Need-same-length
@@ -78,7 +78,7 @@ returns-2 c =
     let k = r .before .before in
     let j = k .before .before .before in
     let a = j .before .before .before .before .before .args in
-    let g = task-granted (a .n) (a .task) (a .area) (a .e) (a .values .now) (a .first) (sym (verdict j) ∙ k .before .enum-told .given .1) in
+    let g = task-granted (a .n) (a .task) (a .area) (a .e) (a .values .now) (a .first) (sym (judge-gives j) ∙ k .before .enum-told .given .1) in
     rw (g, ← (k .pick-element .ensures), ← (j .before .before .carry .ensures)) (r .run-act .ensures)
 
 pub perform-on-spec : {M : Type 1} → statement M

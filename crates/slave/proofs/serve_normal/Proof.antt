@@ -2,8 +2,8 @@
 use mathlib.Core.Path.{refl, _∙_}
 use native.Mathlib.Omega.{arith}
 use lib.ListN.{length}
-use Rattle.setup.proofs.SetupLaws.{configured}
-use Rattle.opening.proofs.AnswersLaws.{opened}
+use Rattle.setup.proofs.SetupLaws.{ok-configured}
+use Rattle.opening.proofs.AnswersLaws.{passed-opened}
 use Rattle.slave.proofs.CaseLaws.{normal-other-node, normal-other-length, normal-replied, area-words, reply-sent}
 use borrow.Author.Needs.{needs}
 use Rattle.slave.proofs.serve_normal.Statement.{statement}
@@ -48,8 +48,8 @@ returns-2 c =
 run-task-requires : tie.Need-run-task-requires
 run-task-requires c κs =
     let a = c .before .before .before .before .before .before .before .before .before .before in
-    let o = opened (a .args .setup) (a .args .table .now) (a .args .values .now) (length (a .args .reply .now)) (a .pre .0) in
-    let w = area-words (a .args .setup) (configured (a .args .setup) (o .setup-good)) in
+    let o = passed-opened (a .args .setup) (a .args .table .now) (a .args .values .now) (length (a .args .reply .now)) (a .pre .0) in
+    let w = area-words (a .args .setup) (ok-configured (a .args .setup) (o .setup-good)) in
     (o .short, omega (arith, o .count), λ h. (w h .0, w h .1, omega (arith, a .pre .1, c .before .if2 .left)))
 
 take-control-requires : tie.Need-take-control-requires
@@ -75,8 +75,8 @@ returns-3 c =
     let e = r .before .before in
     let s = e .before .before .before .before .before .before .before .before .before in
     let a = s .args in
-    let o = opened (a .setup) (a .table .now) (a .values .now) (length (a .reply .now)) (s .pre .0) in
-    let m = reply-sent (a .setup) (r .run-task .result) (a .status) (a .reply .now) (configured (a .setup) (o .setup-good)) (o .buffer) in
+    let o = passed-opened (a .setup) (a .table .now) (a .values .now) (length (a .reply .now)) (s .pre .0) in
+    let m = reply-sent (a .setup) (r .run-task .result) (a .status) (a .reply .now) (ok-configured (a .setup) (o .setup-good)) (o .buffer) in
     rw (normal-replied (a .node) (a .n) (a .setup) (a .table .now) (a .values .now) (a .control) (a .status) (a .received .now) (a .reply .now) (e .before .before .before .if1 .left) (e .if2 .left), ← (r .run-task .ensures .area-is))
     (record {
       answers = rw (w .write-normal .ensures .0 ∙ m .0, k .take-control .ensures);

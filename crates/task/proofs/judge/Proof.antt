@@ -52,8 +52,8 @@ none-5 c r h =
     judged _ _ _ _ _ _ _ _ _ r (inr (n .0, inr (n .1, inr (n .2, inr (none-4 (c .before .before .before), inr (room (c .before) ∙ c .if6 .left, h))))))
 
 -- whether the task is a change
-change : (c : tie.Else6) → (let a = c .before .before .before .before .before .before .before .before .before .before .before .args in changesAct (a .act) ≡ c .before .before .before .before .changes .result)
-change c = sym (c .before .before .before .before .changes .ensures)
+changes-is : (c : tie.Else6) → (let a = c .before .before .before .before .before .before .before .before .before .before .before .args in changesAct (a .act) ≡ c .before .before .before .before .changes .result)
+changes-is c = sym (c .before .before .before .before .changes .ensures)
 
 -- ---- the facts
 
@@ -103,23 +103,23 @@ returns-5 c =
     judged _ _ _ _ _ _ _ _ _ _ (inr (n .0, inr (n .1, inr (n .2, inr (none-4 (c .before .before .before), inl (room (c .before) ∙ c .if6 .taken, refl))))))
 
 returns-6 : tie.Need-returns-6
-returns-6 c = let e = c .before .before in none-5 e _ (inl (rw (change e ∙ c .before .if7 .taken) (c .if8 .taken), refl))
+returns-6 c = let e = c .before .before in none-5 e _ (inl (rw (changes-is e ∙ c .before .if7 .taken) (c .if8 .taken), refl))
 
 returns-7 : tie.Need-returns-7
 returns-7 c =
     let e = c .before .before .before in
-    let t = change e ∙ c .before .before .if7 .taken in
+    let t = changes-is e ∙ c .before .before .if7 .taken in
     none-5 e _ (inr (rw t (c .before .if8 .left), inl (rw t (c .if9 .taken), refl)))
 
 returns-8 : tie.Need-returns-8
 returns-8 c =
     let e = c .before .before .before in
-    let t = change e ∙ c .before .before .if7 .taken in
+    let t = changes-is e ∙ c .before .before .if7 .taken in
     none-5 e _ (inr (rw t (c .before .if8 .left), inr (rw t (c .if9 .left), refl)))
 
 returns-9 : tie.Need-returns-9
 returns-9 c =
-    let f = change (c .before) ∙ c .if7 .left in
+    let f = changes-is (c .before) ∙ c .if7 .left in
     none-5 (c .before) _ (inr (rw f, inr (rw f, refl)))
 
 pub judge-spec : {M : Type 1} → statement M
