@@ -1,15 +1,12 @@
 -- Every telegram that is built passes the frame check, its reported length is its byte count, and the buffer behind it is as it
 -- was. Assumes nothing.
 use mathlib.Core.Path.{_≡_, refl, ap, _∙_}
-use mathlib.Core.Bool.{Bool, true, false, not}
+use mathlib.Core.Bool.{true}
 use mathlib.Core.List.{List}
 use Prim.Native.Nat.{ℕ, _+_, _-_, _≤_}
 use native.Mathlib.Omega.{arith}
-use borrow.Author.Tests.{ltb-false, not-false}
-use lib.Dec.{ltb}
 use lib.ListN.{length, drop, length-append, length-drop}
 use lib.Seq.{take-at, drop-at}
-use Rattle.rows.proofs.RowsLaws.{row-passed}
 use Rattle.frame.specs.Frame.{frameOf}
 use Rattle.frame.specs.declared.FrameCheck.the-variants.{Sound}
 use Rattle.setup.specs.declared.Setup.{Setup}
@@ -22,34 +19,11 @@ use Rattle.request.specs.declared.Request.{Request}
 use Rattle.request.specs.declared.Request.the-variants.{Task, Mirror, Broadcast}
 use Rattle.request.specs.Request.{expressible}
 use Rattle.request.proofs.RequestLaws.{mirror-asked}
-use Rattle.master.specs.declared.BuildFault.the-variants.{BadSetup, NotExpressible, ShortBuffer}
-use Rattle.master.specs.declared.BuildAnswer.{BuildAnswer}
-use Rattle.master.specs.declared.BuildAnswer.the-variants.{Done, Refused}
-use Rattle.master.specs.Build.{BuildOutcome, taskArea, commandArea, telegramFor, unbuilt, sent, builtOf}
+use Rattle.master.specs.declared.BuildAnswer.the-variants.{Done}
+use Rattle.master.specs.Build.{taskArea, commandArea, telegramFor, sent, builtOf}
+use Rattle.master.proofs.BuildLaws.{done-buildable}
 use Rattle.claims_master.specs.Claims.{SoundBuild}
 use Rattle.claims_master.proofs.SentLaws.{net-some, net-fits}
-
-isDone : BuildAnswer → Bool
-isDone Done = true
-isDone (Refused fault) = false
-
-outcomeDone : BuildOutcome → Bool
-outcomeDone o = isDone (o .built .answer)
-
--- a build that succeeded: the set-up may be used, the request can be asked, the buffer is long enough
-pub record Buildable (s : Setup) (r : Request) (net out : List ℕ) : Type 0 where
-  pub setup-good : setupOk s ≡ true
-  pub asked : expressible s r net ≡ true
-  pub room : 256 ≤ length out
-  pub is : builtOf s r net out ≡ sent (telegramFor s r net) out
-
-pub done-buildable : (s : Setup) (r : Request) (net out : List ℕ) → builtOf s r net out .built .answer ≡ Done → Buildable s r net out
-unfolding builtOf outcomeDone isDone
-done-buildable s r net out e =
-    let p1 = row-passed outcomeDone (not (setupOk s)) (unbuilt BadSetup out) _ refl (ap isDone e) in
-    let p2 = row-passed outcomeDone (not (expressible s r net)) (unbuilt NotExpressible out) _ refl (p1 .1) in
-    let p3 = row-passed outcomeDone (ltb (length out) 256) (unbuilt ShortBuffer out) _ refl (p2 .1) in
-    record { setup-good = not-false _ (p1 .0); asked = not-false _ (p2 .0); room = ltb-false _ _ (p3 .0); is = rw (p1 .0, p2 .0, p3 .0) }
 
 -- a telegram has a sound frame and at most 256 bytes
 pub record SoundTelegram (t : List ℕ) : Type 0 where

@@ -16,9 +16,10 @@ use Rattle.slave.specs.Slave.{taskDone, replyOf, written, callOf, normalOutcome
 use Rattle.slave.proofs.CaseLaws.{called}
 use Rattle.master.specs.declared.BuildAnswer.the-variants.{Done}
 use Rattle.master.specs.Build.{telegramFor, builtOf}
+use Rattle.master.proofs.BuildLaws.{done-buildable}
 use Rattle.reply.specs.Reply.{readOf}
 use Rattle.claims_master.specs.Claims.{ReplyRead, RoundMade}
-use Rattle.claims_master.proofs.BuiltPasses.{done-buildable, built-passes}
+use Rattle.claims_master.proofs.BuiltPasses.{built-passes}
 use Rattle.claims_master.proofs.TaskIsRead.{task-is-read}
 use Rattle.claims_master.proofs.ReplyIsRead.{reply-is-read}
 

@@ -1,11 +1,12 @@
 -- The telegrams that a master builds (document 01, Answer numbers 30 to 32): the ignored bits of PKE and IND and an ignored PWE1
 -- are written 0, the index always as given; a mirror carries the node with bit 6; a broadcast is written as given with node 0.
 --     buildNumber f           the document's number of a refusal
+--     admitted s askable room the first of 30, 31, 32 that applies, or none
 --     telegramFor s r net     the telegram of a request
 --     builtOf s r net out     the answer, the length and the buffer afterwards
 use mathlib.Core.Path.{_≡_}
 use Prim.Native.Nat.{ℕ, _+_, _*_, _%_}
-use mathlib.Core.Bool.{not, cond}
+use mathlib.Core.Bool.{Bool, not, cond}
 use mathlib.Core.List.{List, [], _∷_, _++_}
 use lib.Dec.{eqb, ltb}
 use lib.ListN.{length, drop}
@@ -68,6 +69,11 @@ sent telegram out = record { built = record { answer = Done; length = length tel
 pub record Sends (telegram out : List ℕ) (n : ℕ) (bytes : List ℕ) : Type 0 where
   pub long : n ≡ sent telegram out .built .length
   pub there : bytes ≡ sent telegram out .out
+
+-- the same tests, of a request that can be asked or not and of a buffer's length
+unfoldable pub admitted : Setup → Bool → ℕ → BuildAnswer
+admitted s askable room =
+    firstOf ((not (setupOk s), Refused BadSetup) ∷ (not askable, Refused NotExpressible) ∷ (ltb room 256, Refused ShortBuffer) ∷ []) Done
 
 unfoldable pub builtOf : Setup → Request → List ℕ → List ℕ → BuildOutcome
 builtOf s r net out =

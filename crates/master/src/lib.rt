@@ -1,13 +1,14 @@
 // What a master builds (document 01, Answer numbers 30 to 32): the telegrams of tasks, mirrors and broadcasts.
 ghost use mathlib.Core.Path.{_≡_};
 ghost use mathlib.Core.Bool.{true};
+ghost use mathlib.Core.List.{[]};
 ghost use Prim.Native.Nat.{_+_, _≤_};
 ghost use lib.ListN.{length};
 ghost use Rattle.net.specs.Telegram.{telegramOf};
 ghost use Rattle.net.specs.Net.{netOf};
 ghost use Rattle.setup.specs.SetupRules.{setupOk};
-ghost use Rattle.request.specs.Request.{expressible};
-ghost use Rattle.master.specs.Build.{Sends, Builds, taskArea, commandArea, telegramFor, builtOf};
+ghost use Rattle.request.specs.declared.Request.the-variants.{Task, Mirror, Broadcast};
+ghost use Rattle.master.specs.Build.{Sends, Builds, taskArea, commandArea, admitted, builtOf};
 use net::Area;
 use request::Request;
 use setup::Setup;
@@ -29,6 +30,22 @@ pub enum BuildAnswer {
 pub struct Built {
     pub answer: BuildAnswer,
     pub length: usize,
+}
+
+// 30, 31 and 32 in that order: of the set-up, of a request that can be asked or not, of a buffer's length.
+fn admit(setup: Setup, askable: bool, room: usize) -> BuildAnswer
+    ensures { λ r. ⌜ r ≡ admitted setup askable room ⌝ }
+{
+    if !setup::setup_ok(setup) {
+        return BuildAnswer::Refused(BuildFault::BadSetup);
+    }
+    if !askable {
+        return BuildAnswer::Refused(BuildFault::NotExpressible);
+    }
+    if room < 256 {
+        return BuildAnswer::Refused(BuildFault::ShortBuffer);
+    }
+    BuildAnswer::Done
 }
 
 // Writes the telegram of a task.
@@ -87,10 +104,75 @@ fn write_broadcast(
     net::write_normal(out, 32, area, setup.pkw, process, setup.pzd)
 }
 
-// Writes the telegram of a request that can be asked.
-fn write_request(setup: Setup, request: Request, net: &[u8], out: &mut [u8]) -> usize
-    requires { ⌜ (setupOk setup ≡ true) × (expressible setup request (now net) ≡ true) × (256 ≤ length (now out)) ⌝ }
-    ensures { λ r. ⌜ Sends (telegramFor setup request (now (net .entry))) (now (out .entry)) r (now (out .exit)) ⌝ }
+// The build of a task's telegram. A refusal writes nothing; else only the telegram is written, at the buffer's start.
+pub fn build_task(
+    setup: Setup,
+    id: u8,
+    number: u16,
+    index: u8,
+    value: u32,
+    process: Words,
+    out: &mut [u8],
+) -> Built
+    ensures { λ r. ⌜ Builds (builtOf setup (Task id number index value process) [] (now (out .entry))) r (now (out .exit)) ⌝ }
+{
+    let askable = request::can_ask(setup, id, number, index, value, process);
+    let answer = admit(setup, askable, out.len());
+    match answer {
+        BuildAnswer::Done => {
+            let length = write_task(setup, id, number, index, value, process, out);
+            Built { answer, length }
+        }
+        BuildAnswer::Refused(fault) => Built { answer, length: 0 },
+    }
+}
+
+// The build of a mirror's telegram, in the same way.
+pub fn build_mirror(setup: Setup, net: &[u8], out: &mut [u8]) -> Built
+    ensures { λ r. ⌜ Builds (builtOf setup Mirror (now (net .entry)) (now (out .entry))) r (now (out .exit)) ⌝ }
+{
+    let askable = request::can_express(setup, Request::Mirror, net);
+    let answer = admit(setup, askable, out.len());
+    match answer {
+        BuildAnswer::Done => {
+            let length = write_mirror(setup.node, net, out);
+            Built { answer, length }
+        }
+        BuildAnswer::Refused(fault) => Built { answer, length: 0 },
+    }
+}
+
+// The build of a broadcast's telegram, in the same way.
+pub fn build_broadcast(
+    setup: Setup,
+    selector: u16,
+    mask1: u16,
+    mask2: u16,
+    process: Words,
+    out: &mut [u8],
+) -> Built
+    ensures { λ r. ⌜ Builds (builtOf setup (Broadcast selector mask1 mask2 process) [] (now (out .entry))) r (now (out .exit)) ⌝ }
+{
+    let request = Request::Broadcast {
+        selector,
+        mask1,
+        mask2,
+        process,
+    };
+    let askable = request::can_express(setup, request, b"");
+    let answer = admit(setup, askable, out.len());
+    match answer {
+        BuildAnswer::Done => {
+            let length = write_broadcast(setup, selector, mask1, mask2, process, out);
+            Built { answer, length }
+        }
+        BuildAnswer::Refused(fault) => Built { answer, length: 0 },
+    }
+}
+
+// The build of a request's telegram; net are the net bytes of a mirror.
+pub fn build(setup: Setup, request: Request, net: &[u8], out: &mut [u8]) -> Built
+    ensures { λ r. ⌜ Builds (builtOf setup request (now (net .entry)) (now (out .entry))) r (now (out .exit)) ⌝ }
 {
     match request {
         Request::Task {
@@ -99,43 +181,13 @@ fn write_request(setup: Setup, request: Request, net: &[u8], out: &mut [u8]) -> 
             index,
             value,
             process,
-        } => write_task(setup, id, number, index, value, process, out),
-        Request::Mirror => write_mirror(setup.node, net, out),
+        } => build_task(setup, id, number, index, value, process, out),
+        Request::Mirror => build_mirror(setup, net, out),
         Request::Broadcast {
             selector,
             mask1,
             mask2,
             process,
-        } => write_broadcast(setup, selector, mask1, mask2, process, out),
-    }
-}
-
-// The build of a request's telegram; net are the net bytes of a mirror. A refusal writes nothing; else only the telegram is
-// written, at the buffer's start.
-pub fn build(setup: Setup, request: Request, net: &[u8], out: &mut [u8]) -> Built
-    ensures { λ r. ⌜ Builds (builtOf setup request (now (net .entry)) (now (out .entry))) r (now (out .exit)) ⌝ }
-{
-    if !setup::setup_ok(setup) {
-        return Built {
-            answer: BuildAnswer::Refused(BuildFault::BadSetup),
-            length: 0,
-        };
-    }
-    if !request::can_express(setup, request, net) {
-        return Built {
-            answer: BuildAnswer::Refused(BuildFault::NotExpressible),
-            length: 0,
-        };
-    }
-    if out.len() < 256 {
-        return Built {
-            answer: BuildAnswer::Refused(BuildFault::ShortBuffer),
-            length: 0,
-        };
-    }
-    let length = write_request(setup, request, net, out);
-    Built {
-        answer: BuildAnswer::Done,
-        length,
+        } => build_broadcast(setup, selector, mask1, mask2, process, out),
     }
 }

@@ -12,7 +12,8 @@ use Rattle.master.specs.Build.{Builds, BuildOutcome, builtNumber, builtOf}
 use Rattle.reply.specs.declared.Reading.{Reading}
 use Rattle.reply.specs.Reply.{readNumber, readId, readValue}
 use Rattle.uss_c.specs.declared.UssWords.{UssWords}
-use Rattle.uss_c.specs.Host.{hostWords, SlaveLeaves, BuildLeaves, ReplyGives}
+use Rattle.uss_c.specs.declared.UssBuilt.{UssBuilt}
+use Rattle.uss_c.specs.Host.{hostWords, hostBuilt, SlaveLeaves, BuildLeaves, ReplyGives}
 use Rattle.uss_c.proofs.LengthLaws.{call-most, built-most}
 
 -- ---- the slave
@@ -34,14 +35,13 @@ slave-leaves e f l = record {
 
 -- ---- the master
 
-pub built-fits : (s : Setup) (q : Request) (net out : List ℕ) {r : Built} {out′ : List ℕ} → Builds (builtOf s q net out) r out′ → r .length ≤ 256
+pub built-fits : (s : Setup) (q : Request) (net out : List ℕ) {b : Built} {out′ : List ℕ} → Builds (builtOf s q net out) b out′ → b .length ≤ 256
 built-fits s q net out b = rw (b .answers) (built-most s q net out)
 
-pub build-leaves : {o : BuildOutcome} {r : Built} {out′ : List ℕ} {n : ℕ} → n ≡ builtNumber (r .answer) → Builds o r out′
-    → BuildLeaves o (record { number = n; length = r .length }) out′
+pub build-leaves : {o : BuildOutcome} {b : Built} {r : UssBuilt} {out′ : List ℕ} → r ≡ hostBuilt b → Builds o b out′ → BuildLeaves o r out′
 build-leaves e b = record {
-  number-is = e ∙ ap (λ (x : Built). builtNumber (x .answer)) (b .answers);
-  length-is = ap (λ (x : Built). x .length) (b .answers);
+  number-is = ap (λ (x : UssBuilt). x .number) e ∙ ap (λ (x : Built). builtNumber (x .answer)) (b .answers);
+  length-is = ap (λ (x : UssBuilt). x .length) e ∙ ap (λ (x : Built). x .length) (b .answers);
   bytes-are = b .bytes-are;
 }
 

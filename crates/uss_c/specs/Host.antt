@@ -1,6 +1,6 @@
 -- The calls for C in terms of the crates that do the work: structs field by field, answers as the document's numbers.
 --     setupOf s, ownWords w    a struct that comes in
---     hostWords w              four words that go out
+--     hostWords w, hostBuilt b four words and a build's result that go out
 --     SlaveLeaves o r vs out   a slave call that returns r leaves the values vs and the buffer out, as the outcome o says
 --     BuildLeaves o r out      the same for a build
 --     ReplyGives g r           a reading g as it is returned
@@ -10,6 +10,7 @@ use Prim.Native.Nat.{ℕ}
 use Rattle.setup.specs.declared.Setup.{Setup}
 use Rattle.words.specs.declared.Words.{Words}
 use Rattle.slave.specs.Slave.{Outcome, answerNumber}
+use Rattle.master.specs.declared.Built.{Built}
 use Rattle.master.specs.Build.{BuildOutcome, builtNumber}
 use Rattle.reply.specs.declared.Reading.{Reading}
 use Rattle.reply.specs.Reply.{readNumber, readId, readValue}
@@ -27,6 +28,9 @@ ownWords w = record { w1 = w .w1; w2 = w .w2; w3 = w .w3; w4 = w .w4 }
 
 abbrev pub hostWords : Words → UssWords
 hostWords w = record { w1 = w .w1; w2 = w .w2; w3 = w .w3; w4 = w .w4 }
+
+abbrev pub hostBuilt : Built → UssBuilt
+hostBuilt b = record { number = builtNumber (b .answer); length = b .length }
 
 pub record SlaveLeaves (o : Outcome) (r : UssAnswer) (vs out : List ℕ) : Type 0 where
   pub number-is : r .number ≡ answerNumber (o .served .answer)

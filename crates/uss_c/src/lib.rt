@@ -3,6 +3,7 @@
 use frame::Fault;
 use master::BuildAnswer;
 use master::BuildFault;
+use master::Built;
 use opening::OpeningFault;
 use reply::Content;
 use reply::ReadAnswer;
@@ -14,6 +15,7 @@ use slave::Refusal;
 use words::Words;
 ghost use mathlib.Core.Path.{_≡_};
 ghost use mathlib.Core.List.{[]};
+ghost use Prim.Native.Nat.{_≤_};
 ghost use Rattle.frame.specs.Bcc.{xorAll};
 ghost use Rattle.frame.specs.Address.{faultNumber};
 ghost use Rattle.opening.specs.Answers.{openingNumber};
@@ -22,7 +24,7 @@ ghost use Rattle.slave.specs.Slave.{refusalNumber, answerNumber, callOf};
 ghost use Rattle.master.specs.Build.{buildNumber, builtNumber, builtOf};
 ghost use Rattle.reply.specs.Reply.{readFaultNumber, contentId, contentValue, readNumber, readId, readValue, readOf};
 ghost use Rattle.listing.specs.Listing.{listedOf};
-ghost use Rattle.uss_c.specs.Host.{setupOf, ownWords, hostWords, SlaveLeaves, BuildLeaves, ReplyGives};
+ghost use Rattle.uss_c.specs.Host.{setupOf, ownWords, hostWords, hostBuilt, SlaveLeaves, BuildLeaves, ReplyGives};
 
 // ---- the structs that cross
 
@@ -262,11 +264,10 @@ fn ask_task(task: u8, parameter: u16, index: u8, value: u32, process: UssWords) 
     }
 }
 
-// The telegram of a request, as a build for C returns it.
-fn build(setup: Setup, request: Request, net: &[u8], out: &mut [u8]) -> UssBuilt
-    ensures { λ r. ⌜ BuildLeaves (builtOf setup request (now (net .entry)) (now (out .entry))) r (now (out .exit)) ⌝ }
+fn give_built(built: Built) -> UssBuilt
+    requires { ⌜ built .length ≤ 256 ⌝ }
+    ensures { λ r. ⌜ r ≡ hostBuilt built ⌝ }
 {
-    let built = master::build(setup, request, net, out);
     let answer = built.answer;
     UssBuilt {
         number: number_built(answer),
@@ -286,15 +287,18 @@ pub extern "C" fn uss_build_task(
 ) -> UssBuilt
     ensures { λ r. ⌜ BuildLeaves (builtOf (setupOf setup) (Task task parameter index value (ownWords process)) [] (now (out .entry))) r (now (out .exit)) ⌝ }
 {
-    let request = ask_task(task, parameter, index, value, process);
-    build(take_setup(setup), request, b"", out)
+    let own = take_setup(setup);
+    let words = take_words(process);
+    let built = master::build_task(own, task, parameter, index, value, words, out);
+    give_built(built)
 }
 
 #[no_mangle]
 pub extern "C" fn uss_build_mirror(setup: UssSetup, net: &[u8], out: &mut [u8]) -> UssBuilt
     ensures { λ r. ⌜ BuildLeaves (builtOf (setupOf setup) Mirror (now (net .entry)) (now (out .entry))) r (now (out .exit)) ⌝ }
 {
-    build(take_setup(setup), Request::Mirror, net, out)
+    let built = master::build_mirror(take_setup(setup), net, out);
+    give_built(built)
 }
 
 #[no_mangle]
@@ -308,13 +312,10 @@ pub extern "C" fn uss_build_broadcast(
 ) -> UssBuilt
     ensures { λ r. ⌜ BuildLeaves (builtOf (setupOf setup) (Broadcast selector mask1 mask2 (ownWords process)) [] (now (out .entry))) r (now (out .exit)) ⌝ }
 {
-    let request = Request::Broadcast {
-        selector,
-        mask1,
-        mask2,
-        process: take_words(process),
-    };
-    build(take_setup(setup), request, b"", out)
+    let own = take_setup(setup);
+    let words = take_words(process);
+    let built = master::build_broadcast(own, selector, mask1, mask2, words, out);
+    give_built(built)
 }
 
 #[no_mangle]

@@ -1,73 +1,66 @@
--- `master::build` meets its contract: 30, 31, 32, then the telegram. Assumes nothing.
-use mathlib.Core.Path.{_≡_, refl, sym, _∙_}
-use mathlib.Core.Bool.{true}
-use native.Mathlib.Omega.{arith}
-use borrow.Author.Tests.{not-true, not-false, lt-ltb, le-ltb}
-use lib.ListN.{length}
-use Rattle.setup.specs.SetupRules.{setupOk}
+-- `master::build` meets its contract: each request by its own builder. Assumes nothing.
 use Rattle.request.specs.Request.{expressible}
-use Rattle.master.specs.Build.{builtOf}
+use Rattle.master.specs.Build.{telegramFor, builtOf}
 use borrow.Author.Needs.{needs}
 use Rattle.master.proofs.build.Statement.{statement}
 use Rattle.master.proofs.build.Tie as tie
 use Rattle.master.proofs.build.Reads as reads
 use Rattle.master.proofs.build.Lts as lts
-use Rattle.master.proofs.write_request.Reads as write-request-reads
-use Rattle.request.proofs.can_express.Reads as can-express-reads
-use Rattle.setup.proofs.setup_ok.Reads as setup-ok-reads
+use Rattle.master.proofs.build_broadcast.Reads as build-broadcast-reads
+use Rattle.master.proofs.build_mirror.Reads as build-mirror-reads
+use Rattle.master.proofs.build_task.Reads as build-task-reads
 
-good : (c : tie.Else2) → (let a = c .before .before .before .before .before .before .args in (setupOk (a .setup) ≡ true) × (expressible (a .setup) (a .request) (a .net .now) ≡ true))
-good c = (
-  sym (c .before .before .before .setup-ok .ensures) ∙ not-false _ (c .before .before .if1 .left),
-  sym (c .before .can-express .ensures) ∙ not-false _ (c .if2 .left),
-)
+enum-known-request : tie.Need-enum-known-request
+enum-known-request c = search needs
 
-setup-ok-requires : tie.Need-setup-ok-requires
-setup-ok-requires c κs = search needs
+build-task-requires : tie.Need-build-task-requires
+build-task-requires c κs = search needs
 
-returns : tie.Need-returns
-unfolding builtOf
-returns c = rw (sym (c .before .setup-ok .ensures) ∙ not-true _ (c .if1 .taken)) (record { answers = refl; bytes-are = refl })
+enum-told : tie.Need-enum-told
+enum-told c = search needs
 
-can-express-requires : tie.Need-can-express-requires
-can-express-requires c κs = search needs
+build-mirror-requires : tie.Need-build-mirror-requires
+build-mirror-requires c κs = search needs
 
-returns-2 : tie.Need-returns-2
-unfolding builtOf
-returns-2 c = rw (sym (c .before .before .before .setup-ok .ensures) ∙ not-false _ (c .before .before .if1 .left), sym (c .before .can-express .ensures) ∙ not-true _ (c .if2 .taken)) (record { answers = refl; bytes-are = refl })
+enum-known-request-2 : tie.Need-enum-known-request-2
+enum-known-request-2 c = search needs
 
-returns-3 : tie.Need-returns-3
-unfolding builtOf
-returns-3 c =
-    let e = c .before in
-    let room = length (e .before .before .before .before .before .before .args .out .now) in
-    rw (good e .0, good e .1, lt-ltb room 256 (omega arith)) (record { answers = refl; bytes-are = refl })
-
-write-request-requires : tie.Need-write-request-requires
-write-request-requires c κs =
-    let e = c .before .before in
-    (good e .0, good e .1, c .before .if3 .left)
+build-broadcast-requires : tie.Need-build-broadcast-requires
+build-broadcast-requires c κs = search needs
 
 same-length : tie.Need-same-length
 same-length c = search needs
 
-returns-4 : tie.Need-returns-4
-unfolding builtOf
-returns-4 c =
-    let w = c .before .before in
-    let t = w .before .before in
-    let e = t .before in
-    rw (good e .0, good e .1, le-ltb _ _ (t .if3 .left)) (record { answers = rw (w .write-request .ensures .long); bytes-are = w .write-request .ensures .there })
+returns : tie.Need-returns
+unfolding builtOf expressible telegramFor
+returns c = rw (c .before .before .before .before .before .request .given .1) (c .before .before .build-task .ensures)
+
+same-length-2 : tie.Need-same-length-2
+same-length-2 c = search needs
+
+returns-2 : tie.Need-returns-2
+returns-2 c = rw (c .before .before .before .before .enum-told .given .1) (c .before .before .build-mirror .ensures)
+
+same-length-3 : tie.Need-same-length-3
+same-length-3 c = search needs
+
+returns-3 : tie.Need-returns-3
+unfolding builtOf expressible telegramFor
+returns-3 c = rw (c .before .before .before .before .before .request2 .given .1) (c .before .before .build-broadcast .ensures)
 
 pub build-spec : {M : Type 1} → statement M
 build-spec =
     tie.close
     (tie.spec
-    setup-ok-requires
-    returns
-    can-express-requires
-    returns-2
-    returns-3
-    write-request-requires
+    enum-known-request
+    build-task-requires
+    enum-told
+    build-mirror-requires
+    enum-known-request-2
+    build-broadcast-requires
     same-length
-    returns-4)
+    returns
+    same-length-2
+    returns-2
+    same-length-3
+    returns-3)

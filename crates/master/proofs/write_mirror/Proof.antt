@@ -37,7 +37,7 @@ returns c =
     let a = s .args in
     let net = a .net .now in
     let fit = put-fits (a .out .now) 3 net (omega arith) in
-    let m = net-sealed (a .out .now) (a .node + 64) net (s .pre .1) (s .pre .2) (s .pre .3) (q .put .ensures .1 ∙ ap (λ (x : Placed). x .bytes) fit) in
+    let m = net-sealed (a .out .now) (a .node + 64) net (s .pre .1) (s .pre .3) (q .put .ensures .1 ∙ ap (λ (x : Placed). x .bytes) fit) (s .pre .2) in
     let n = length-telegram (a .node + 64) net in
     record {
       long = l .seal .ensures .0 ∙ m .0 ∙ sym n;
