@@ -5,17 +5,17 @@ use mathlib.Core.List.{List, [], _∷_, _++_}
 use Prim.Native.Nat.{ℕ, zero, suc, _+_, _-_, _*_, _/_, _%_, _^_, _≤_, _<_}
 use native.Mathlib.Numerals.{add-three}
 use native.Mathlib.Omega.{arith}
-use lib.Dec.{ltb, lit<}
+use lib.Dec.{eqb, ltb, lit<}
 use lib.ListN.{length, getD, take, length-append, List·getD-append}
 use lib.Seq.{getD-append-add, getD-take, length-take-le}
-use borrow.Author.Tests.{le-leb, le-ltb, ltb-true}
+use borrow.Author.Tests.{le-leb, le-ltb, lt-ltb, ltb-true, eqb-false}
 use Rattle.frame.specs.Bcc.{xorAll}
 use Rattle.words.specs.Words.{wordAt, doubleAt, doubleOf, Bytes}
 use Rattle.words.specs.declared.Words.{Words}
 use Rattle.net.specs.declared.Area.{Area}
 use Rattle.net.specs.Telegram.{bodyOf, telegramOf}
 use Rattle.net.specs.Net.{bytesOf, wordsOf, valueWords, areaWords, netOf}
-use Rattle.net.specs.Read.{valueAt, areaAt, areaIn, wordTaken, processAt, firstWords, Worded}
+use Rattle.net.specs.Read.{valueAt, areaAt, areaIn, wordTaken, processAt, processIn, firstWords, Worded}
 use Rattle.net.proofs.NetLaws.{length-area, area-all}
 
 -- ---- words
@@ -120,6 +120,27 @@ area-three t long = rw (le-ltb (length t) 9 long, value-one t)
 pub area-four : (t : List ℕ) → Bytes t → 11 ≤ length t → areaIn t 4 ≡ record { pke = wordAt t 3; ind = wordAt t 5; value = doubleAt t 7 }
 unfolding areaIn areaAt
 area-four t bytes long = rw (le-ltb (length t) 9 (omega arith), le-leb 11 (length t) long, value-last t 2 7 bytes (omega arith) refl)
+
+-- areas that are there
+pub area-in : (t : List ℕ) (n : ℕ) → 3 ≤ n → n ≤ 4 → n * 2 + 3 ≤ length t → areaIn t n ≡ areaAt t n
+unfolding areaIn
+area-in t n low high there = go (eqb n 3) refl
+  where
+    go : (b : Bool) → eqb n 3 ≡ b → areaIn t n ≡ areaAt t n
+    go true e = rw (le-ltb (length t) 9 (omega arith), e)
+    go false e =
+        let four : n ≡ 4 = omega (arith, eqb-false n 3 e) in
+        rw (le-ltb (length t) 9 (omega arith), e, four, le-leb 11 (length t) (omega arith))
+
+module _ (t : List ℕ) (n pzd : ℕ) (old : Words) where
+  pub process-in : n * 2 + 3 + pzd * 2 ≤ length t → processIn t n pzd old ≡ processAt t n pzd old
+  unfolding processIn
+  process-in there = rw (le-leb (n * 2 + 3 + pzd * 2) (length t) there)
+
+  -- the first of them
+  pub process-first : (pzd ≡ 0 → ⊥) → processAt t n pzd old .w1 ≡ wordAt t (n * 2 + 3)
+  unfolding processAt
+  process-first some = rw (lt-ltb 0 pzd (omega arith))
 
 module _ (adr : ℕ) (a : Area) (n : ℕ) (w : Words) (pzd : ℕ) where
   words-of : List ℕ

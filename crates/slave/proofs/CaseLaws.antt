@@ -1,28 +1,72 @@
 -- Each case of the slave call by the tests that lead to it. Assumes nothing.
-use mathlib.Core.Path.{_≡_, ap}
+use mathlib.Core.Path.{_≡_, refl, sym, ap, _∙_}
 use mathlib.Core.Logic.{_⊎_, inl, inr}
-use mathlib.Core.Bool.{true, false}
+use mathlib.Core.Bool.{Bool, true, false, false≢true}
 use mathlib.Core.List.{List}
-use Prim.Native.Nat.{ℕ, _≤_}
+use Prim.Native.Nat.{ℕ, _+_, _*_, _/_, _%_, _≤_}
 use native.Mathlib.Omega.{arith}
+use lib.Dec.{eqb}
 use lib.ListN.{length}
-use borrow.Author.Tests.{eq-eqb, ne-eqb}
+use borrow.Author.Tests.{eq-eqb, ne-eqb, eqb-false}
+use Rattle.words.specs.Words.{wordAt, doubleAt, Bytes}
 use Rattle.words.specs.declared.Words.{Words}
 use Rattle.setup.specs.declared.Setup.{Setup}
 use Rattle.setup.specs.SetupRules.{netBytes}
 use Rattle.setup.proofs.SetupLaws.{Configured, area-few}
 use Rattle.net.specs.declared.Area.{Area}
-use Rattle.net.specs.Read.{processAt}
+use Rattle.net.specs.Read.{areaIn, processAt, processIn}
 use Rattle.net.specs.Net.{normalOf, normalLength}
 use Rattle.net.proofs.NetLaws.{telegram-sent}
+use Rattle.net.proofs.ReadLaws.{area-three, area-four, process-in, process-first}
 use Rattle.frame.specs.declared.Decoded.{Decoded}
 use Rattle.frame.specs.Address.{decodedOf}
 use Rattle.opening.specs.declared.Opening.{Opening}
 use Rattle.opening.specs.Answers.{openingOf}
+use Rattle.broadcast.specs.declared.Command.{Command}
 use Rattle.broadcast.specs.Broadcast.{isVoid, controlAfter}
 use Rattle.slave.specs.declared.Answer.the-variants.{Taken}
 use Rattle.slave.specs.declared.Refusal.the-variants.{OtherNode, OtherLength, VoidBroadcast}
 use Rattle.slave.specs.Slave.{firstWord, commandAt, refusedServed, refusedOf, written, replyOf, normalOutcome, normalCase, broadcastCase, executeDecoded, executeOf, callOpened, callOf}
+
+-- ---- what is read of a telegram that has the set-up's words
+
+module _ (s : Setup) (control : Words) (rx : List ℕ) (there : s .pkw * 2 + 3 + s .pzd * 2 ≤ length rx) {w : Words} (e : w ≡ processIn rx (s .pkw) (s .pzd) control) where
+  pub process-taken : w ≡ processAt rx (s .pkw) (s .pzd) control
+  process-taken = e ∙ process-in rx (s .pkw) (s .pzd) control there
+
+  pub first-taken : (s .pzd ≡ 0 → ⊥) → w .w1 ≡ firstWord s rx
+  first-taken h = ap (λ (x : Words). x .w1) process-taken ∙ process-first rx (s .pkw) (s .pzd) control h
+
+-- ---- broadcast
+
+-- its command by the parameter area, of 3 words and of 4
+module _ (rx : List ℕ) (n : ℕ) (bytes : Bytes rx) {a : Area} (e : a ≡ areaIn rx n) where
+  pub command-three : n ≡ 3 → 9 ≤ length rx → record { selector = a .pke; mask1 = a .ind; mask2 = a .value % 65536; fourth = 0 } ≡ commandAt rx n
+  unfolding commandAt
+  command-three three long =
+      let low : wordAt rx 7 % 65536 ≡ wordAt rx 7 = omega (arith, bytes 7, bytes 8) in
+      rw (e, three, area-three rx long, low)
+
+  pub command-four : n ≡ 4 → 11 ≤ length rx → record { selector = a .pke; mask1 = a .ind; mask2 = a .value / 65536; fourth = a .value % 65536 } ≡ commandAt rx n
+  unfolding commandAt
+  command-four four long =
+      let high : doubleAt rx 7 / 65536 ≡ wordAt rx 7 = omega (arith, bytes 9, bytes 10) in
+      let low : doubleAt rx 7 % 65536 ≡ wordAt rx 9 = omega (arith, bytes 9, bytes 10) in
+      rw (e, four, area-four rx bytes long, high, low)
+
+-- without an area or without process words it is void, whatever is read
+pub void-same : (c d : Command) (pkw pzd f g : ℕ) → ((pkw ≡ 0 → ⊥) → c ≡ d) → ((pzd ≡ 0 → ⊥) → f ≡ g) → isVoid c pkw pzd f ≡ isVoid d pkw pzd g
+unfolding isVoid
+void-same c d pkw pzd f g h i = go (eqb pkw 0) (eqb pzd 0) refl refl
+  where
+    go : (x y : Bool) → eqb pkw 0 ≡ x → eqb pzd 0 ≡ y → isVoid c pkw pzd f ≡ isVoid d pkw pzd g
+    go true y p q = rw p
+    go false true p q = rw (p, q)
+    go false false p q = rw (h (eqb-false pkw 0 p), i (eqb-false pzd 0 q))
+
+pub not-void : (c : Command) (pkw pzd f : ℕ) → isVoid c pkw pzd f ≡ false → pkw ≡ 0 → ⊥
+unfolding isVoid
+not-void c pkw pzd f e z = false≢true (sym e ∙ rw z)
 
 module _ (n : ℕ) (s : Setup) (control : Words) (rx : List ℕ) where
   pub broadcast-void : n ≡ netBytes s → isVoid (commandAt rx (s .pkw)) (s .pkw) (s .pzd) (firstWord s rx) ≡ true

@@ -1,7 +1,7 @@
 // The slave (document 01, Slave): one call takes a received page, runs its task on the lent values, and answers.
 ghost use mathlib.Core.Path.{_≡_};
 ghost use mathlib.Core.Bool.{true, not, _||_};
-ghost use Prim.Native.Nat.{_+_, _-_, _*_, _≤_, _<_};
+ghost use Prim.Native.Nat.{_+_, _*_, _≤_, _<_};
 ghost use lib.ListN.{length, set};
 ghost use Rattle.entry.specs.Fields.{countOf};
 ghost use Rattle.entry.specs.Limits.{isWithin};
@@ -9,8 +9,7 @@ ghost use Rattle.table.specs.Records.{entryAt, countsOf, entries, firstPlace};
 ghost use Rattle.task.specs.Verdict.{changesAct};
 ghost use Rattle.opening.specs.Answers.{openingOf};
 ghost use Rattle.opening.specs.declared.Opening.the-variants.{Passed};
-ghost use Rattle.words.specs.Words.{wordAt};
-ghost use Rattle.net.specs.Read.{valueAt, areaAt, wordTaken, processAt};
+ghost use Rattle.setup.specs.SetupRules.{setupOk};
 ghost use Rattle.slave.specs.Perform.{replyArea, elementCount, carried, readReply, idle, doneOf, performOn, performOf, Performs};
 ghost use Rattle.slave.specs.Slave.{Leaves, refusedServed, taskDone, controlTaken, commandAt, normalCase, mirrorCase, broadcastCase, executeOf, callOf};
 use broadcast::Command;
@@ -27,8 +26,6 @@ use task::Task;
 use task::Verdict;
 use task::Width;
 use words::Words;
-use words::join;
-use words::join_double;
 
 // Why a call is refused: by the opening check (20 to 23), by the frame or the address (10 to 15), or 16, 17, 18.
 pub enum Refusal {
@@ -52,59 +49,6 @@ pub struct Served {
     pub answer: Answer,
     pub length: usize,
     pub control: Words,
-}
-
-// ---- the words that a telegram has
-
-// The word at a place that has it.
-fn word_in(t: &[u8], at: usize) -> u16
-    requires { ⌜ at + 2 ≤ length (now t) ⌝ }
-    ensures { λ r. ⌜ r ≡ wordAt (now (t .entry)) at ⌝ }
-{
-    join(t[at], t[at + 1])
-}
-
-// The value of a parameter area of 3 or 4 words.
-fn value_in(t: &[u8], n: u8) -> u32
-    requires { ⌜ (3 ≤ n) × (n ≤ 4) × (n * 2 + 3 ≤ length (now t)) ⌝ }
-    ensures { λ r. ⌜ r ≡ valueAt (now (t .entry)) (n - 2) ⌝ }
-{
-    if n == 3 {
-        return word_in(t, 7) as u32;
-    }
-    join_double(word_in(t, 7), word_in(t, 9))
-}
-
-// A parameter area of 3 or 4 words.
-fn area_in(t: &[u8], n: u8) -> Area
-    requires { ⌜ (3 ≤ n) × (n ≤ 4) × (n * 2 + 3 ≤ length (now t)) ⌝ }
-    ensures { λ r. ⌜ r ≡ areaAt (now (t .entry)) n ⌝ }
-{
-    let pke = word_in(t, 3);
-    let ind = word_in(t, 5);
-    let value = value_in(t, n);
-    Area { pke, ind, value }
-}
-
-// The word at a place where it is taken, else the old one.
-fn take_word(t: &[u8], at: usize, taken: bool, old: u16) -> u16
-    requires { ⌜ (at ≤ 1000000) × (taken ≡ true → at + 2 ≤ length (now t)) ⌝ }
-    ensures { λ r. ⌜ r ≡ wordTaken (now (t .entry)) at taken old ⌝ }
-{
-    if taken { word_in(t, at) } else { old }
-}
-
-// The first pzd of four words, which stand behind an area of n words; the rest are the old ones.
-fn process_in(t: &[u8], n: u8, pzd: u8, old: Words) -> Words
-    requires { ⌜ n * 2 + pzd * 2 + 3 ≤ length (now t) ⌝ }
-    ensures { λ r. ⌜ r ≡ processAt (now (t .entry)) n pzd old ⌝ }
-{
-    let at = (n as usize) * 2 + 3;
-    let w1 = take_word(t, at, 0 < pzd, old.w1);
-    let w2 = take_word(t, at + 2, 1 < pzd, old.w2);
-    let w3 = take_word(t, at + 4, 2 < pzd, old.w3);
-    let w4 = take_word(t, at + 6, 3 < pzd, old.w4);
-    Words { w1, w2, w3, w4 }
 }
 
 // ---- a parameter task
@@ -246,20 +190,8 @@ fn read_record(t: &[u8], k: usize) -> Entry
     requires { ⌜ 12 * k + 12 ≤ length (now t) ⌝ }
     ensures { λ r. ⌜ r ≡ entryAt (now (t .entry)) k ⌝ }
 {
-    let at = 12 * k;
-    let head = join_double(join(t[at], t[at + 1]), join(t[at + 2], t[at + 3]));
-    let minimum = join_double(join(t[at + 4], t[at + 5]), join(t[at + 6], t[at + 7]));
-    let maximum = join_double(join(t[at + 8], t[at + 9]), join(t[at + 10], t[at + 11]));
-    entry::entry_of(head, minimum, maximum)
-}
-
-// The places of record k of a table that has it: of its first 32 bits, only the lower word tells.
-fn count_at(t: &[u8], k: usize) -> usize
-    requires { ⌜ 12 * k + 12 ≤ length (now t) ⌝ }
-    ensures { λ r. ⌜ r ≡ countOf (entryAt (now (t .entry)) k) ⌝ }
-{
-    let low = join(t[12 * k + 2], t[12 * k + 3]);
-    entry::count_places(entry::entry_of(low as u32, 0, 0))
+    let record = table::record_of(&t[12 * k..12 * k + 12]);
+    entry::entry_of(record.head, record.minimum, record.maximum)
 }
 
 // The sum of the places of the records before record k.
@@ -269,7 +201,7 @@ fn sum_places(t: &[u8], k: usize) -> usize
 {
     let mut sum: usize = 0;
     for i in 0..k {
-        sum += count_at(t, i);
+        sum += entry::count_places(read_record(t, i));
     }
     sum
 }
@@ -340,7 +272,7 @@ fn run_task(n: u8, table: &[u8], values: &mut [u32], received: &[u8]) -> Area
             value: 0,
         };
     }
-    let area = area_in(received, n);
+    let area = net::read_area(received, n);
     perform(n, table, values, area)
 }
 
@@ -348,35 +280,37 @@ fn run_task(n: u8, table: &[u8], values: &mut [u32], received: &[u8]) -> Area
 
 // The control words after a normal telegram.
 fn take_control(setup: Setup, control: Words, received: &[u8]) -> Words
-    requires { ⌜ setup .pkw * 2 + setup .pzd * 2 + 3 ≤ length (now received) ⌝ }
+    requires { ⌜ setup .pkw * 2 + 3 + setup .pzd * 2 ≤ length (now received) ⌝ }
     ensures { λ r. ⌜ r ≡ controlTaken setup control (now (received .entry)) ⌝ }
 {
+    let process = net::read_process(received, setup.pkw, setup.pzd, control);
     if setup.pzd != 0 {
-        let first = word_in(received, (setup.pkw as usize) * 2 + 3);
-        if first / 1024 % 2 == 1 {
-            return process_in(received, setup.pkw, setup.pzd, control);
+        if process.w1 / 1024 % 2 == 1 {
+            return process;
         }
     }
     control
 }
 
-// The parameter area of a broadcast.
+// The parameter area of a broadcast, if PKW is not 0.
 fn read_command(received: &[u8], n: u8) -> Command
-    ensures { λ r. ⌜ r ≡ commandAt (now (received .entry)) n ⌝ }
+    requires { ⌜ ((n ≡ 0 → ⊥) → (3 ≤ n) × (n ≤ 4) × (n * 2 + 3 ≤ length (now received))) ⌝ }
+    ensures { λ r. ⌜ ((n ≡ 0 → ⊥) → r ≡ commandAt (now (received .entry)) n) ⌝ }
 {
-    let selector = words::word_at(received, 3);
-    let mask1 = words::word_at(received, 5);
-    let mask2 = words::word_at(received, 7);
-    let fourth = if n == 4 {
-        words::word_at(received, 9)
-    } else {
-        0
-    };
+    let area = net::read_area(received, n);
+    if n == 4 {
+        return Command {
+            selector: area.pke,
+            mask1: area.ind,
+            mask2: (area.value / 65536) as u16,
+            fourth: (area.value % 65536) as u16,
+        };
+    }
     Command {
-        selector,
-        mask1,
-        mask2,
-        fourth,
+        selector: area.pke,
+        mask1: area.ind,
+        mask2: (area.value % 65536) as u16,
+        fourth: 0,
     }
 }
 
@@ -439,18 +373,17 @@ fn serve_mirror(setup: Setup, control: Words, received: &[u8], reply: &mut [u8],
 
 // A broadcast with n net bytes: 17, 18, or the control words with the masked bits taken. No reply.
 fn serve_broadcast(setup: Setup, control: Words, received: &[u8], n: usize) -> Served
-    requires { ⌜ length (now received) ≡ n + 4 ⌝ }
+    requires { ⌜ (setupOk setup ≡ true) × (length (now received) ≡ n + 4) ⌝ }
     ensures { λ r. ⌜ r ≡ broadcastCase n setup control (now (received .entry)) ⌝ }
 {
     if n != ((setup.pkw as usize) + (setup.pzd as usize)) * 2 {
         return refuse(Refusal::OtherLength, control);
     }
     let command = read_command(received, setup.pkw);
-    let first = words::word_at(received, (setup.pkw as usize) * 2 + 3);
-    if broadcast::is_void(command, setup.pkw, setup.pzd, first) {
+    let process = net::read_process(received, setup.pkw, setup.pzd, control);
+    if broadcast::is_void(command, setup.pkw, setup.pzd, process.w1) {
         return refuse(Refusal::VoidBroadcast, control);
     }
-    let process = process_in(received, setup.pkw, setup.pzd, control);
     let length = 0;
     Served {
         answer: Answer::Taken,

@@ -50,9 +50,10 @@ sub-serve-broadcast c =
 serve-broadcast-requires : tie.Need-serve-broadcast-requires
 serve-broadcast-requires c κs =
     let d = c .before .before in
-    let a = d .before .before .before .before .before .args in
+    let a = d .before .before .before .before .before in
     let e = sym (d .decode .ensures) ∙ c .enum-told .given .1 in
-    omega (arith, telegram-framed (a .received .now) _ e refl .counted .long)
+    let o = passed-opened (a .args .setup) (a .args .table .now) (a .args .values .now) (length (a .args .reply .now)) (a .pre) in
+    (o .setup-good, omega (arith, telegram-framed (a .args .received .now) _ e refl .counted .long))
 
 enum-known-node-2 : tie.Need-enum-known-node-2
 enum-known-node-2 c = search needs

@@ -1,40 +1,39 @@
 -- `slave::read_command` meets its contract. Assumes nothing.
-use borrow.Author.Tests.{ne-eqb}
-use Rattle.slave.specs.Slave.{commandAt}
+use mathlib.Core.Path.{_≡_}
+use native.Mathlib.Omega.{arith}
+use Rattle.slave.proofs.CaseLaws.{command-three, command-four}
 use borrow.Author.Needs.{needs}
 use Rattle.slave.proofs.read_command.Statement.{statement}
 use Rattle.slave.proofs.read_command.Tie as tie
 use Rattle.slave.proofs.read_command.Reads as reads
 use Rattle.slave.proofs.read_command.Lts as lts
-use Rattle.words.proofs.word_at.Reads as word-at-reads
+use Rattle.net.proofs.read_area.Reads as read-area-reads
 
-word-at-requires : tie.Need-word-at-requires
-word-at-requires c κs = search needs
+read-area-requires : tie.Need-read-area-requires
+read-area-requires c κs = search needs
 
-word-at-requires-2 : tie.Need-word-at-requires-2
-word-at-requires-2 c κs = search needs
+cast-t6 : tie.Need-cast-t6
+cast-t6 c = search needs
 
-word-at-requires-3 : tie.Need-word-at-requires-3
-word-at-requires-3 c κs = search needs
-
-word-at-requires-4 : tie.Need-word-at-requires-4
-word-at-requires-4 c κs = search needs
+cast-t8 : tie.Need-cast-t8
+cast-t8 c = search needs
 
 returns : tie.Need-returns
-unfolding commandAt
-returns c = rw (c .before .before .before .before .word-at .ensures, c .before .before .before .word-at2 .ensures, c .before .before .word-at3 .ensures, c .word-at4 .ensures, c .before .if1 .taken)
+returns c h =
+    let r = c .before .before .before in
+    let a = r .before .before in
+    command-four (a .args .received .now) (a .args .n) (λ i. r .before .shared-slice-known .given i .fits) (r .read-area .ensures) (c .before .before .if1 .taken) (omega (arith, a .pre h .2, c .before .before .if1 .taken))
+
+cast-t10 : tie.Need-cast-t10
+cast-t10 c = search needs
 
 returns-2 : tie.Need-returns-2
-unfolding commandAt
-returns-2 c = rw (c .before .before .before .word-at .ensures, c .before .before .word-at2 .ensures, c .before .word-at3 .ensures, ne-eqb _ _ (c .if1 .left))
+returns-2 c h =
+    let r = c .before .before in
+    let a = r .before .before in
+    let three : a .args .n ≡ 3 = omega (arith, a .pre h .0, a .pre h .1, c .before .if1 .left) in
+    command-three (a .args .received .now) (a .args .n) (λ i. r .before .shared-slice-known .given i .fits) (r .read-area .ensures) three (omega (arith, a .pre h .2))
 
 pub read-command-spec : {M : Type 1} → statement M
 read-command-spec =
-    tie.close
-    (tie.spec
-    word-at-requires
-    word-at-requires-2
-    word-at-requires-3
-    word-at-requires-4
-    returns
-    returns-2)
+    tie.close (tie.spec read-area-requires cast-t6 cast-t8 returns cast-t10 returns-2)

@@ -1,170 +1,57 @@
 -- `slave::read_record` meets its contract. Assumes nothing.
+use Prim.Native.Nat.{_+_, _-_, _*_}
 use mathlib.Core.Path.{_∙_}
+use native.Mathlib.Omega.{arith}
 use denote.Ref.{now}
-use Rattle.table.proofs.RecordsLaws.{record-is}
+use Rattle.table.proofs.RecordsLaws.{entry-part}
 use borrow.Author.Needs.{needs}
 use Rattle.slave.proofs.read_record.Statement.{statement}
 use Rattle.slave.proofs.read_record.Tie as tie
 use Rattle.slave.proofs.read_record.Reads as reads
 use Rattle.slave.proofs.read_record.Lts as lts
 use Rattle.entry.proofs.entry_of.Reads as entry-of-reads
-use Rattle.words.proofs.join.Reads as join-reads
-use Rattle.words.proofs.join_double.Reads as join-double-reads
+use Rattle.table.proofs.record_of.Reads as record-of-reads
 
-mul-at : tie.Need-mul-at
-mul-at c = search needs
+mul-record-of : tie.Need-mul-record-of
+mul-record-of c = search needs
 
-shared-slice-read-join : tie.Need-shared-slice-read-join
-shared-slice-read-join c = search needs
+mul-record-of-2 : tie.Need-mul-record-of-2
+mul-record-of-2 c = search needs
 
-add-join : tie.Need-add-join
-add-join c = search needs
+add-record-of : tie.Need-add-record-of
+add-record-of c = search needs
 
-shared-slice-read-join-2 : tie.Need-shared-slice-read-join-2
-shared-slice-read-join-2 c = search needs
+sub-record-of : tie.Need-sub-record-of
+sub-record-of c = search needs
 
-join-requires : tie.Need-join-requires
-join-requires c κs = search needs
+part-record-of-start : tie.Need-part-record-of-start
+part-record-of-start c = search needs
 
-add-join-2 : tie.Need-add-join-2
-add-join-2 c = search needs
+part-record-of-end : tie.Need-part-record-of-end
+part-record-of-end c = search needs
 
-shared-slice-read-join-3 : tie.Need-shared-slice-read-join-3
-shared-slice-read-join-3 c = search needs
-
-add-join-3 : tie.Need-add-join-3
-add-join-3 c = search needs
-
-shared-slice-read-join-4 : tie.Need-shared-slice-read-join-4
-shared-slice-read-join-4 c = search needs
-
-join-requires-2 : tie.Need-join-requires-2
-join-requires-2 c κs = search needs
-
-join-double-requires : tie.Need-join-double-requires
-join-double-requires c κs = search needs
-
-add-join-4 : tie.Need-add-join-4
-add-join-4 c = search needs
-
-shared-slice-read-join-5 : tie.Need-shared-slice-read-join-5
-shared-slice-read-join-5 c = search needs
-
-add-join-5 : tie.Need-add-join-5
-add-join-5 c = search needs
-
-shared-slice-read-join-6 : tie.Need-shared-slice-read-join-6
-shared-slice-read-join-6 c = search needs
-
-join-requires-3 : tie.Need-join-requires-3
-join-requires-3 c κs = search needs
-
-add-join-6 : tie.Need-add-join-6
-add-join-6 c = search needs
-
-shared-slice-read-join-7 : tie.Need-shared-slice-read-join-7
-shared-slice-read-join-7 c = search needs
-
-add-join-7 : tie.Need-add-join-7
-add-join-7 c = search needs
-
-shared-slice-read-join-8 : tie.Need-shared-slice-read-join-8
-shared-slice-read-join-8 c = search needs
-
-join-requires-4 : tie.Need-join-requires-4
-join-requires-4 c κs = search needs
-
-join-double-requires-2 : tie.Need-join-double-requires-2
-join-double-requires-2 c κs = search needs
-
-add-join-8 : tie.Need-add-join-8
-add-join-8 c = search needs
-
-shared-slice-read-join-9 : tie.Need-shared-slice-read-join-9
-shared-slice-read-join-9 c = search needs
-
-add-join-9 : tie.Need-add-join-9
-add-join-9 c = search needs
-
-shared-slice-read-join-10 : tie.Need-shared-slice-read-join-10
-shared-slice-read-join-10 c = search needs
-
-join-requires-5 : tie.Need-join-requires-5
-join-requires-5 c κs = search needs
-
-add-join-10 : tie.Need-add-join-10
-add-join-10 c = search needs
-
-shared-slice-read-join-11 : tie.Need-shared-slice-read-join-11
-shared-slice-read-join-11 c = search needs
-
-add-join-11 : tie.Need-add-join-11
-add-join-11 c = search needs
-
-shared-slice-read-join-12 : tie.Need-shared-slice-read-join-12
-shared-slice-read-join-12 c = search needs
-
-join-requires-6 : tie.Need-join-requires-6
-join-requires-6 c κs = search needs
-
-join-double-requires-3 : tie.Need-join-double-requires-3
-join-double-requires-3 c κs = search needs
+record-of-requires : tie.Need-record-of-requires
+record-of-requires c κs = search needs
 
 entry-of-requires : tie.Need-entry-of-requires
 entry-of-requires c κs = search needs
 
 returns : tie.Need-returns
 returns c =
-    let d = c .before in
-    let i = d .before in
-    let h = i .before .before .before in
-    let g = h .before .before .before in
-    let f = g .before in
-    let j = f .before .before .before in
-    let q = j .before .before .before in
-    let b = q .before in
-    let o = b .before .before .before in
-    let a = o .before .before .before .before .args in
-    c .entry-of .ensures
-    ∙ rw (d .join-double3 .ensures, i .join6 .ensures, h .join5 .ensures, g .join-double2 .ensures, f .join4 .ensures, j .join3 .ensures, q .join-double .ensures, b .join2 .ensures, o .join .ensures)
-    (record-is (now (a .t)) (a .k))
+    let r = c .before in
+    let a = r .before .before .before .args in
+    c .entry-of .ensures ∙ rw (r .record-of .ensures) (entry-part (now (a .t)) (a .k) (12 * a .k + 12 - 12 * a .k) (omega arith) (omega arith))
 
 pub read-record-spec : {M : Type 1} → statement M
 read-record-spec =
     tie.close
     (tie.spec
-    mul-at
-    shared-slice-read-join
-    add-join
-    shared-slice-read-join-2
-    join-requires
-    add-join-2
-    shared-slice-read-join-3
-    add-join-3
-    shared-slice-read-join-4
-    join-requires-2
-    join-double-requires
-    add-join-4
-    shared-slice-read-join-5
-    add-join-5
-    shared-slice-read-join-6
-    join-requires-3
-    add-join-6
-    shared-slice-read-join-7
-    add-join-7
-    shared-slice-read-join-8
-    join-requires-4
-    join-double-requires-2
-    add-join-8
-    shared-slice-read-join-9
-    add-join-9
-    shared-slice-read-join-10
-    join-requires-5
-    add-join-10
-    shared-slice-read-join-11
-    add-join-11
-    shared-slice-read-join-12
-    join-requires-6
-    join-double-requires-3
+    mul-record-of
+    mul-record-of-2
+    add-record-of
+    sub-record-of
+    part-record-of-start
+    part-record-of-end
+    record-of-requires
     entry-of-requires
     returns)

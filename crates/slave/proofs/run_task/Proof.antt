@@ -1,21 +1,22 @@
 -- `slave::run_task` meets its contract. Assumes nothing.
-use mathlib.Core.Path.{refl}
+use mathlib.Core.Path.{refl, _∙_}
 use borrow.Author.Tests.{ne-eqb}
+use Rattle.net.proofs.ReadLaws.{area-in}
 use Rattle.slave.specs.Slave.{taskDone}
 use borrow.Author.Needs.{needs}
 use Rattle.slave.proofs.run_task.Statement.{statement}
 use Rattle.slave.proofs.run_task.Tie as tie
 use Rattle.slave.proofs.run_task.Reads as reads
 use Rattle.slave.proofs.run_task.Lts as lts
-use Rattle.slave.proofs.area_in.Reads as area-in-reads
+use Rattle.net.proofs.read_area.Reads as read-area-reads
 use Rattle.slave.proofs.perform.Reads as perform-reads
 
 returns : tie.Need-returns
 unfolding taskDone
 returns c = rw (c .if1 .taken) (record { area-is = refl; values-are = refl })
 
-area-in-requires : tie.Need-area-in-requires
-area-in-requires c κs = c .before .before .before .before .pre .2 (c .if1 .left)
+read-area-requires : tie.Need-read-area-requires
+read-area-requires c κs = search needs
 
 perform-requires : tie.Need-perform-requires
 perform-requires c κs = search needs
@@ -28,8 +29,11 @@ unfolding taskDone
 returns-2 c =
     let p = c .before .before in
     let i = p .before .before .before in
-    rw (ne-eqb _ _ (i .if1 .left), ← (p .before .before .area-in .ensures)) (p .perform .ensures)
+    let a = i .before .before .before .before in
+    let h = a .pre .2 (i .if1 .left) in
+    let e = p .before .before .read-area .ensures ∙ area-in (a .args .received .now) (a .args .n) (h .0) (h .1) (h .2) in
+    rw (ne-eqb _ _ (i .if1 .left), ← e) (p .perform .ensures)
 
 pub run-task-spec : {M : Type 1} → statement M
 run-task-spec =
-    tie.close (tie.spec returns area-in-requires perform-requires same-length returns-2)
+    tie.close (tie.spec returns read-area-requires perform-requires same-length returns-2)

@@ -3,14 +3,17 @@ use Prim.Native.Nat.{_≤_, _+_, _-_, _*_}
 use mathlib.Core.Path.{_≡_, ap, _∙_}
 use native.Mathlib.Nat.{sub-zero}
 use native.Mathlib.Omega.{arith}
+use borrow.Author.Needs.{needs}
 use denote.Ref.{now}
-use Rattle.table.specs.Records.{entriesFrom, countsOf}
+use Rattle.entry.specs.Fields.{countOf}
+use Rattle.table.specs.Records.{entryAt, entriesFrom, countsOf}
 use Rattle.table.proofs.RecordsLaws.{entries-step, entries-end, counts-none, counts-more, count-at-le}
 use Rattle.slave.proofs.sum_places.Statement.{statement}
 use Rattle.slave.proofs.sum_places.Tie as tie
 use Rattle.slave.proofs.sum_places.Reads as reads
 use Rattle.slave.proofs.sum_places.Lts as lts
-use Rattle.slave.proofs.count_at.Reads as count-at-reads
+use Rattle.entry.proofs.count_places.Reads as count-places-reads
+use Rattle.slave.proofs.read_record.Reads as read-record-reads
 
 abbrev Inv-loop : tie.InvT-loop
 Inv-loop t k sum₀ i₀ sum i =
@@ -22,13 +25,19 @@ abbrev μ-loop : tie.MeasureT-loop
 loop-holds : tie.Need-loop-holds Inv-loop μ-loop
 loop-holds c = (omega arith, omega arith, rw sub-zero (omega arith))
 
-count-at-requires : tie.Need-count-at-requires Inv-loop μ-loop
-count-at-requires c κs = omega arith
+read-record-requires : tie.Need-read-record-requires Inv-loop μ-loop
+read-record-requires c κs = omega arith
+
+count-places-requires : tie.Need-count-places-requires Inv-loop μ-loop
+count-places-requires c κs = search needs
+
+counted : (c : tie.After-count-places Inv-loop μ-loop) → let l = c .before .before .before in c .count-places .result ≡ countOf (entryAt (now (l .before .before .args .t)) (l .loop .i))
+counted c = c .count-places .ensures ∙ ap countOf (c .before .read-record .ensures)
 
 add-sum : tie.Need-add-sum Inv-loop μ-loop
 add-sum c =
-    let e = c .count-at .ensures in
-    let l = c .before .before in
+    let e = counted c in
+    let l = c .before .before .before in
     omega (arith, count-at-le (now (l .before .before .args .t)) (l .loop .i))
 
 add-i : tie.Need-add-i Inv-loop μ-loop
@@ -39,10 +48,10 @@ loop-less c = omega arith
 
 loop-again : tie.Need-loop-again Inv-loop μ-loop
 loop-again c =
-    let l = c .before .before in
+    let l = c .before .before .before in
     let a = l .before .before .args in
-    let e = c .count-at .ensures in
-    let all = ap countsOf (entries-step (now (a .t)) (a .k) (l .loop .i) (c .before .loop-test .taken)) ∙ counts-more _ _ in
+    let e = counted c in
+    let all = ap countsOf (entries-step (now (a .t)) (a .k) (l .loop .i) (c .before .before .loop-test .taken)) ∙ counts-more _ _ in
     (omega arith, omega (arith, count-at-le (now (a .t)) (l .loop .i)), omega arith)
 
 returns : tie.Need-returns Inv-loop μ-loop
@@ -58,7 +67,8 @@ sum-places-spec =
     Inv-loop
     μ-loop
     loop-holds
-    count-at-requires
+    read-record-requires
+    count-places-requires
     add-sum
     add-i
     loop-less

@@ -1,51 +1,42 @@
 -- `slave::take_control` meets its contract. Assumes nothing.
+use mathlib.Core.Path.{_≡_, sym, ap, _∙_}
+use Prim.Native.Nat.{ℕ, _/_, _%_}
+use borrow.Author.Tests.{ne-eqb}
 use Rattle.rows.proofs.RowsLaws.{tests}
-use Rattle.slave.specs.Slave.{controlTaken}
-use native.Mathlib.Omega.{arith}
+use Rattle.slave.specs.Slave.{firstWord, controlTaken}
+use Rattle.slave.proofs.CaseLaws.{process-taken, first-taken}
 use borrow.Author.Needs.{needs}
 use Rattle.slave.proofs.take_control.Statement.{statement}
 use Rattle.slave.proofs.take_control.Tie as tie
 use Rattle.slave.proofs.take_control.Reads as reads
 use Rattle.slave.proofs.take_control.Lts as lts
-use Rattle.slave.proofs.process_in.Reads as process-in-reads
-use Rattle.slave.proofs.word_in.Reads as word-in-reads
+use Rattle.net.proofs.read_process.Reads as read-process-reads
 
-cast-word-in : tie.Need-cast-word-in
-cast-word-in c = search needs
+read-process-requires : tie.Need-read-process-requires
+read-process-requires c κs = search needs
 
-mul-word-in : tie.Need-mul-word-in
-mul-word-in c = search needs
-
-add-word-in : tie.Need-add-word-in
-add-word-in c = search needs
-
-word-in-requires : tie.Need-word-in-requires
-word-in-requires c κs = omega arith
-
-process-in-requires : tie.Need-process-in-requires
-process-in-requires c κs = omega arith
+-- the first process word
+first-is : (c : tie.Then1) → c .before .before .read-process .result .w1 ≡ firstWord (c .before .before .before .before .args .setup) (c .before .before .before .before .args .received .now)
+first-is c =
+    let r = c .before .before in
+    let a = r .before .before .args in
+    first-taken (a .setup) (a .control) (a .received .now) (r .before .before .pre) (r .read-process .ensures) (c .if1 .taken)
 
 returns : tie.Need-returns
 unfolding controlTaken
-returns c = search (tests, c .process-in .ensures, ← (c .before .before .word-in .ensures))
+returns c =
+    let r = c .before .before .before .before in
+    let a = r .before .before .args in
+    let bit : firstWord (a .setup) (a .received .now) / 1024 % 2 ≡ 1 = ap (λ (x : ℕ). x / 1024 % 2) (sym (first-is (c .before .before))) ∙ c .if2 .taken in
+    process-taken (a .setup) (a .control) (a .received .now) (r .before .before .pre) (r .read-process .ensures) ∙ sym (rw (ne-eqb _ 0 (c .before .before .if1 .taken), bit))
 
 returns-2 : tie.Need-returns-2
 unfolding controlTaken
-returns-2 c = search (tests, ← (c .before .word-in .ensures))
+returns-2 c = search (tests, ← (first-is (c .before .before)))
 
 returns-3 : tie.Need-returns-3
 unfolding controlTaken
 returns-3 c = search tests
 
 pub take-control-spec : {M : Type 1} → statement M
-take-control-spec =
-    tie.close
-    (tie.spec
-    cast-word-in
-    mul-word-in
-    add-word-in
-    word-in-requires
-    process-in-requires
-    returns
-    returns-2
-    returns-3)
+take-control-spec = tie.close (tie.spec read-process-requires returns returns-2 returns-3)
