@@ -6,9 +6,6 @@ use mathlib.Core.List.{List}
 use denote.Ref.{now}
 use Rattle.words.proofs.join.Reads as words-join
 use Rattle.words.proofs.join_double.Reads as words-join-double
-use Rattle.words.proofs.byte_at.Reads as words-byte-at
-use Rattle.words.proofs.word_at.Reads as words-word-at
-use Rattle.words.proofs.double_at.Reads as words-double-at
 use Rattle.store.proofs.has_room.Reads as store-has-room
 use Rattle.frame.proofs.bcc.Reads as frame-bcc
 use Rattle.frame.proofs.check.Reads as frame-check
@@ -22,6 +19,7 @@ use Rattle.entry.proofs.count_places.Reads as entry-count-places
 use Rattle.entry.proofs.at_most.Reads as entry-at-most
 use Rattle.entry.proofs.within.Reads as entry-within
 use Rattle.entry.proofs.entry_ok.Reads as entry-entry-ok
+use Rattle.table.proofs.record_of.Reads as table-record-of
 use Rattle.table.proofs.find.Reads as table-find
 use Rattle.opening.proofs.«open».Reads as opening-open
 use Rattle.net.proofs.read_area.Reads as net-read-area
@@ -75,15 +73,6 @@ words-join-one κs a r r′ s s′ = equal-through
 pub words-join-double-one : OneResult words-join-double.Post
 words-join-double-one κs a r r′ s s′ = equal-through
 
-pub words-byte-at-one : OneResult words-byte-at.Post
-words-byte-at-one κs a r r′ s s′ = equal-through
-
-pub words-word-at-one : OneResult words-word-at.Post
-words-word-at-one κs a r r′ s s′ = equal-through
-
-pub words-double-at-one : OneResult words-double-at.Post
-words-double-at-one κs a r r′ s s′ = equal-through
-
 pub store-has-room-one : OneResult store-has-room.Post
 store-has-room-one κs a r r′ s s′ = equal-through
 
@@ -122,6 +111,9 @@ entry-within-one κs a r r′ s s′ = equal-through
 
 pub entry-entry-ok-one : OneResult entry-entry-ok.Post
 entry-entry-ok-one κs a r r′ s s′ = equal-through
+
+pub table-record-of-one : OneResult table-record-of.Post
+table-record-of-one κs a r r′ s s′ = equal-through
 
 pub table-find-one : OneResult table-find.Post
 table-find-one κs a r r′ s s′ = equal-through

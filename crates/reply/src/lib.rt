@@ -1,8 +1,10 @@
 // How a master reads the reply to a task (document 01, Answer numbers, "Reply reading").
 ghost use mathlib.Core.Path.{_≡_};
-ghost use mathlib.Core.Bool.{_||_};
-ghost use Prim.Native.Nat.{_≤_};
+ghost use mathlib.Core.Bool.{true, _||_};
+ghost use Prim.Native.Nat.{_+_, _≤_};
 ghost use lib.Dec.{eqb};
+ghost use lib.ListN.{length};
+ghost use Rattle.setup.specs.SetupRules.{setupOk};
 ghost use Rattle.reply.specs.Reply.{inRow, knownId, misfit, notEmpty, otherEcho, badReply, replyContent, unread, readNormal, readTask, readOf};
 use frame::Decoded;
 use frame::Fault;
@@ -193,6 +195,7 @@ fn read_normal(
     node: u8,
     n: usize,
 ) -> Reading
+    requires { ⌜ (setupOk setup ≡ true) × (length (now received) ≡ n + 4) ⌝ }
     ensures { λ r. ⌜ r ≡ readNormal node n setup id number index (now (received .entry)) ⌝ }
 {
     if node != setup.node {
@@ -226,6 +229,7 @@ fn read_normal(
 
 // Received bytes as the reply to a task.
 fn read_task(setup: Setup, id: u8, number: u16, index: u8, received: &[u8]) -> Reading
+    requires { ⌜ setupOk setup ≡ true ⌝ }
     ensures { λ r. ⌜ r ≡ readTask setup id number index (now (received .entry)) ⌝ }
 {
     match frame::decode(received) {

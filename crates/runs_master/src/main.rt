@@ -73,10 +73,16 @@ fn show_answer(answer: ReadAnswer) {
     }
 }
 
+fn show_byte(b: u8) {
+    io::print_hex(1, b as u64, 2);
+}
+
 // The first n bytes, in hexadecimal.
 fn show_bytes(t: &[u8], n: usize) {
-    for i in 0..n {
-        io::print_hex(1, words::byte_at(t, i) as u64, 2);
+    for i in 0..t.len() {
+        if i < n {
+            show_byte(t[i]);
+        }
     }
 }
 

@@ -74,3 +74,12 @@ area-few s f = go (f .areas)
     go (inl e) = omega arith
     go (inr (inl e)) = omega arith
     go (inr (inr e)) = omega arith
+
+-- a parameter area has 3 or 4 words
+pub area-words : (s : Setup) → Configured s → (s .pkw ≡ 0 → ⊥) → (3 ≤ s .pkw) × (s .pkw ≤ 4)
+area-words s c h = go (c .areas)
+  where
+    go : (s .pkw ≡ 0) ⊎ ((s .pkw ≡ 3) ⊎ (s .pkw ≡ 4)) → (3 ≤ s .pkw) × (s .pkw ≤ 4)
+    go (inl z) = absurd (h z)
+    go (inr (inl t)) = (omega arith, omega arith)
+    go (inr (inr f)) = (omega arith, omega arith)

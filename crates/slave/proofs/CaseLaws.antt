@@ -1,6 +1,5 @@
 -- Each case of the slave call by the tests that lead to it. Assumes nothing.
 use mathlib.Core.Path.{_≡_, refl, sym, ap, _∙_}
-use mathlib.Core.Logic.{_⊎_, inl, inr}
 use mathlib.Core.Bool.{Bool, true, false, false≢true}
 use mathlib.Core.List.{List}
 use Prim.Native.Nat.{ℕ, _+_, _*_, _/_, _%_, _≤_}
@@ -94,15 +93,6 @@ module _ (node n : ℕ) (s : Setup) (t vs : List ℕ) (control status : Words) (
   pub normal-replied : node ≡ s .node → n ≡ netBytes s → normalCase node n s t vs control status rx out ≡ normalOutcome s t vs control status rx out
   unfolding normalCase
   normal-replied e h = rw (eq-eqb _ _ e, eq-eqb _ _ h)
-
--- a parameter area has 3 or 4 words
-pub area-words : (s : Setup) → Configured s → (s .pkw ≡ 0 → ⊥) → (3 ≤ s .pkw) × (s .pkw ≤ 4)
-area-words s c h = go (c .areas)
-  where
-    go : (s .pkw ≡ 0) ⊎ ((s .pkw ≡ 3) ⊎ (s .pkw ≡ 4)) → (3 ≤ s .pkw) × (s .pkw ≤ 4)
-    go (inl z) = absurd (h z)
-    go (inr (inl t)) = (omega arith, omega arith)
-    go (inr (inr f)) = (omega arith, omega arith)
 
 -- the reply of a set-up that may be used, as it is written
 pub reply-sent : (s : Setup) (a : Area) (status : Words) (out : List ℕ) → Configured s → 256 ≤ length out

@@ -60,7 +60,7 @@ put-words-requires c κs = search needs
 kept : (c : tie.After-put-words) → (let a = c .before .before .before .before .before .before .before .before .before .before .before .args in
     (256 ≤ length (c .put-words .last .0)) × (take (a .n * 2 + a .pzd * 2) (drop 3 (c .put-words .last .0)) ≡ netOf (a .area) (a .n) (a .process) (a .pzd))
     × (telegramOf (a .adr) (take (a .n * 2 + a .pzd * 2) (drop 3 (c .put-words .last .0))) ++ drop (a .n * 2 + a .pzd * 2 + 4) (c .put-words .last .0)
-       ≡ telegramOf (a .adr) (netOf (a .area) (a .n) (a .process) (a .pzd)) ++ drop (length (netOf (a .area) (a .n) (a .process) (a .pzd)) + 4) (a .out .now)))
+    ≡ telegramOf (a .adr) (netOf (a .area) (a .n) (a .process) (a .pzd)) ++ drop (length (netOf (a .area) (a .n) (a .process) (a .pzd)) + 4) (a .out .now)))
 kept c =
     let q = c .before .before .before .before in
     let t = q .before .before in

@@ -2,8 +2,11 @@
 use mathlib.Core.Path.{_≡_, sym, _∙_}
 use Rattle.rows.proofs.RowsLaws.{tests}
 use borrow.Author.Tests.{eq-eqb, ne-eqb}
-use Rattle.net.specs.Read.{areaAt}
-use Rattle.reply.specs.Reply.{badReply, readNormal}
+use native.Mathlib.Omega.{arith}
+use Rattle.setup.proofs.SetupLaws.{ok-configured, area-words}
+use Rattle.net.specs.Read.{areaAt, processAt}
+use Rattle.net.proofs.ReadLaws.{area-in, process-in}
+use Rattle.reply.specs.Reply.{zeroWords, badReply, readNormal}
 use borrow.Author.Needs.{needs}
 use Rattle.reply.proofs.read_normal.Statement.{statement}
 use Rattle.reply.proofs.read_normal.Tie as tie
@@ -15,8 +18,21 @@ use Rattle.reply.proofs.is_bad.Reads as is-bad-reads
 use Rattle.reply.proofs.read_content.Reads as read-content-reads
 use Rattle.reply.proofs.refuse.Reads as refuse-reads
 
+-- the words of the set-up are there
+process-is : (c : tie.After-read-process) → (let a = c .before .before .before .before .before .before .before .args in c .read-process .result ≡ processAt (a .received .now) (a .setup .pkw) (a .setup .pzd) zeroWords)
+process-is c =
+    let a = c .before .before .before .before .before .before .before in
+    c .read-process .ensures ∙ process-in (a .args .received .now) (a .args .setup .pkw) (a .args .setup .pzd) zeroWords (omega (arith, a .pre .1, c .before .if2 .left))
+
+area-is : (c : tie.After-read-area) → (let a = c .before .before .before .before .before .before .before .before .before .before .args in c .read-area .result ≡ areaAt (a .received .now) (a .setup .pkw))
+area-is c =
+    let e = c .before in
+    let a = e .before .before .before .before .before .before .before .before .before in
+    let w = area-words (a .args .setup) (ok-configured (a .args .setup) (a .pre .0)) (e .if3 .left) in
+    c .read-area .ensures ∙ area-in (a .args .received .now) (a .args .setup .pkw) (w .0) (w .1) (omega (arith, a .pre .1, e .before .before .before .if2 .left))
+
 bad : (c : tie.After-is-bad) → (let a = c .before .before .before .before .before .before .before .before .before .before .before .args in badReply (a .setup .pkw) (a .id) (a .number) (a .index) (areaAt (a .received .now) (a .setup .pkw)) ≡ c .is-bad .result)
-bad c = sym (c .is-bad .ensures ∙ rw (c .before .read-area .ensures))
+bad c = sym (c .is-bad .ensures ∙ rw (area-is (c .before)))
 
 refuse-requires : tie.Need-refuse-requires
 refuse-requires c κs = search needs
@@ -51,7 +67,7 @@ returns-3 : tie.Need-returns-3
 unfolding readNormal
 returns-3 c =
     let r = c .before .before in
-    rw (eq-eqb _ _ (r .before .before .before .before .if1 .left), eq-eqb _ _ (r .before .if2 .left), eq-eqb _ _ (c .if3 .taken), r .read-process .ensures)
+    rw (eq-eqb _ _ (r .before .before .before .before .if1 .left), eq-eqb _ _ (r .before .if2 .left), eq-eqb _ _ (c .if3 .taken), process-is r)
 
 read-area-requires : tie.Need-read-area-requires
 read-area-requires c κs = search needs
@@ -79,7 +95,7 @@ returns-5 c =
     let b = c .before .before in
     let e = b .before .before in
     let r = e .before .before in
-    sym (rw (eq-eqb _ _ (r .before .before .before .before .if1 .left), eq-eqb _ _ (r .before .if2 .left), ne-eqb _ _ (e .if3 .left), bad b ∙ c .before .if4 .left, c .read-content .ensures, b .before .read-area .ensures, r .read-process .ensures))
+    sym (rw (eq-eqb _ _ (r .before .before .before .before .if1 .left), eq-eqb _ _ (r .before .if2 .left), ne-eqb _ _ (e .if3 .left), bad b ∙ c .before .if4 .left, c .read-content .ensures, area-is (b .before), process-is r))
 
 pub read-normal-spec : {M : Type 1} → statement M
 read-normal-spec =

@@ -5,26 +5,22 @@ use Rattle.runs_master.proofs.show_bytes.Statement.{statement}
 use Rattle.runs_master.proofs.show_bytes.Tie as tie
 use Rattle.runs_master.proofs.show_bytes.Reads as reads
 use Rattle.runs_master.proofs.show_bytes.Lts as lts
-use Rattle.io.proofs.print_hex.Reads as print-hex-reads
-use Rattle.words.proofs.byte_at.Reads as byte-at-reads
+use Rattle.runs_master.proofs.show_byte.Reads as show-byte-reads
 
 abbrev Inv-loop : tie.InvT-loop
-Inv-loop t n i₀ i = i ≤ n
+Inv-loop bytes n i₀ i-end i = i ≤ i-end
 
 abbrev μ-loop : tie.MeasureT-loop
-μ-loop t n i₀ i = n - i
+μ-loop bytes n i₀ i-end i = i-end - i
 
 loop-holds : tie.Need-loop-holds Inv-loop μ-loop
 loop-holds c = search needs
 
-byte-at-requires : tie.Need-byte-at-requires Inv-loop μ-loop
-byte-at-requires c κs = search needs
+shared-slice-read-show-byte : tie.Need-shared-slice-read-show-byte Inv-loop μ-loop
+shared-slice-read-show-byte c = search needs
 
-cast-print-hex : tie.Need-cast-print-hex Inv-loop μ-loop
-cast-print-hex c = search needs
-
-print-hex-requires : tie.Need-print-hex-requires Inv-loop μ-loop
-print-hex-requires c κs = search needs
+show-byte-requires : tie.Need-show-byte-requires Inv-loop μ-loop
+show-byte-requires c κs = search needs
 
 add-i : tie.Need-add-i Inv-loop μ-loop
 add-i c = search needs
@@ -45,9 +41,8 @@ show-bytes-spec =
     Inv-loop
     μ-loop
     loop-holds
-    byte-at-requires
-    cast-print-hex
-    print-hex-requires
+    shared-slice-read-show-byte
+    show-byte-requires
     add-i
     loop-less
     loop-again

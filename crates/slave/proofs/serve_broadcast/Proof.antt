@@ -5,10 +5,10 @@ use mathlib.Core.Bool.{false}
 use native.Mathlib.Omega.{arith}
 use lib.ListN.{length}
 use Rattle.rows.proofs.RowsLaws.{tests}
-use Rattle.setup.proofs.SetupLaws.{ok-configured}
+use Rattle.setup.proofs.SetupLaws.{ok-configured, area-words}
 use Rattle.broadcast.specs.Broadcast.{isVoid}
 use Rattle.slave.specs.Slave.{firstWord, commandAt, broadcastCase}
-use Rattle.slave.proofs.CaseLaws.{area-words, process-taken, first-taken, void-same, not-void, broadcast-void, broadcast-taken}
+use Rattle.slave.proofs.CaseLaws.{process-taken, first-taken, void-same, not-void, broadcast-void, broadcast-taken}
 use borrow.Author.Needs.{needs}
 use Rattle.slave.proofs.serve_broadcast.Statement.{statement}
 use Rattle.slave.proofs.serve_broadcast.Tie as tie

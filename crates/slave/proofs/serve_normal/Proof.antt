@@ -2,9 +2,9 @@
 use mathlib.Core.Path.{refl, _∙_}
 use native.Mathlib.Omega.{arith}
 use lib.ListN.{length}
-use Rattle.setup.proofs.SetupLaws.{ok-configured}
+use Rattle.setup.proofs.SetupLaws.{ok-configured, area-words}
 use Rattle.opening.proofs.AnswersLaws.{passed-opened}
-use Rattle.slave.proofs.CaseLaws.{normal-other-node, normal-other-length, normal-replied, area-words, reply-sent}
+use Rattle.slave.proofs.CaseLaws.{normal-other-node, normal-other-length, normal-replied, reply-sent}
 use borrow.Author.Needs.{needs}
 use Rattle.slave.proofs.serve_normal.Statement.{statement}
 use Rattle.slave.proofs.serve_normal.Tie as tie
