@@ -5,10 +5,9 @@ use mathlib.Core.List.{List, [], _∷_}
 use mathlib.Core.Bool.{Bool, true, false, not, cond, _&&_, and-true, and-false, false≢true}
 use native.Mathlib.Omega.{arith}
 use native.Mathlib.Nat.{add-zero, zero-add}
-use borrow.Author.Tests.{le-leb, lt-leb, eq-eqb, ne-eqb, eqb-true}
+use borrow.Author.Tests.{le-leb, lt-leb, leb-true, leb-false, eq-eqb, ne-eqb, eqb-true}
 use lib.ListN.{length, getD}
 use lib.Dec.{eqb, leb}
-use Rattle.rows.proofs.BoolLaws.{and-left}
 use Rattle.entry.specs.declared.Entry.{Entry}
 use Rattle.entry.specs.Fields.{countOf}
 use Rattle.entry.specs.Limits.{atMost, fitsIn, isWithin, entryOk}
@@ -72,41 +71,42 @@ pub run-one : (e : Entry) (vs : List ℕ) (place : ℕ) (r : Bool) → place < l
 unfolding runOk
 run-one e vs place r h q = rw (q, le-leb (place + 1) (length vs) (omega arith), and-true (limitsOk e), and-true (isWithin e (getD vs place 0)))
 
--- the rules that a record can break by itself
+-- the rules that a record can break by itself, but for that of its number
+abbrev pub plainOk : Entry → Bool
+plainOk e = leb (e .elements) 254 && eqb (e .spare) 0 && limitsOk e
+
+six-tests : (n s p f g m : Bool) → (n && s && p && f && g && m) ≡ (n && (s && p && (f && g && m)))
+six-tests false s p f g m = refl
+six-tests true false p f g m = refl
+six-tests true true false f g m = refl
+six-tests true true true f g m = refl
+
 module _ (e : Entry) where
-  pub number-over : 31999 < e .number → entryOk e ≡ false
+  entry-plain : entryOk e ≡ (leb (e .number) 31999 && plainOk e)
   unfolding entryOk
-  number-over h = simp (lt-leb _ _ h)
+  entry-plain = six-tests (leb (e .number) 31999) (leb (e .elements) 254) (eqb (e .spare) 0) (fitsIn (e .double) (e .minimum)) (fitsIn (e .double) (e .maximum)) (atMost (e .double) (e .signed) (e .minimum) (e .maximum))
 
-  pub elements-over : 254 < e .elements → entryOk e ≡ false
-  unfolding entryOk
-  elements-over h = simp (lt-leb _ _ h, and-false)
+  pub elements-over : 254 < e .elements → plainOk e ≡ false
+  elements-over h = simp (lt-leb _ _ h)
 
-  pub spare-set : (e .spare ≡ 0 → ⊥) → entryOk e ≡ false
-  unfolding entryOk
+  pub spare-set : (e .spare ≡ 0 → ⊥) → plainOk e ≡ false
   spare-set h = simp (ne-eqb _ _ h, and-false)
 
-  pub entry-limits : e .number ≤ 31999 → e .elements ≤ 254 → e .spare ≡ 0 → entryOk e ≡ limitsOk e
-  unfolding entryOk
-  entry-limits p q h = simp (le-leb _ _ p, le-leb _ _ q, eq-eqb _ _ h)
+  pub plain-limits : e .elements ≤ 254 → e .spare ≡ 0 → plainOk e ≡ limitsOk e
+  plain-limits q h = simp (le-leb _ _ q, eq-eqb _ _ h)
 
--- a record and its values are in order
+-- a record, but for its number, and its values are in order
 abbrev pub fineOf : Entry → List ℕ → ℕ → Bool
-fineOf e vs place = entryOk e && leb (place + countOf e) (length vs) && runOk e vs (countOf e) place
+fineOf e vs place = plainOk e && leb (place + countOf e) (length vs) && runOk e vs (countOf e) place
 
 module _ (e : Entry) (vs : List ℕ) (place : ℕ) where
-  pub fine-broken : (next : ℕ) → entryOk e ≡ false → (false ≡ fineOf e vs place) × (false ≡ true → next ≡ place + countOf e)
+  pub fine-broken : (next : ℕ) → plainOk e ≡ false → (false ≡ fineOf e vs place) × (false ≡ true → next ≡ place + countOf e)
   fine-broken next h = (rw h, λ f. absurd (false≢true f))
 
   -- its n values were looked at, and its limits with them
-  pub fine-run : (n : ℕ) (r : Bool) → countOf e ≡ n → entryOk e ≡ limitsOk e → r ≡ (limitsOk e && leb (place + n) (length vs) && runOk e vs n place)
+  pub fine-run : (n : ℕ) (r : Bool) → countOf e ≡ n → plainOk e ≡ limitsOk e → r ≡ (limitsOk e && leb (place + n) (length vs) && runOk e vs n place)
       → (r ≡ fineOf e vs place) × (r ≡ true → place + n ≡ place + countOf e)
   fine-run n r c o q = (q ∙ rw (c, o), λ f. rw c)
-
-  pub fine-entry : (r : Bool) → r ≡ fineOf e vs place → r ≡ true → entryOk e ≡ true
-  fine-entry r q f =
-      let l = leb (place + countOf e) (length vs) in
-      and-left (entryOk e) l (and-left (entryOk e && l) (runOk e vs (countOf e) place) (sym q ∙ f))
 
 -- ---- the table, and the values with it
 
@@ -114,8 +114,12 @@ module _ (e : Entry) (vs : List ℕ) (place : ℕ) where
 abbrev pub ruledFrom : List Entry → ℕ → ℕ → Bool
 ruledFrom es least place = risingFrom least es && eachOk es && leb (place + countsOf es) 4096
 
-abbrev pub goodFrom : List ℕ → List Entry → ℕ → ℕ → Bool
+abbrev goodFrom : List ℕ → List Entry → ℕ → ℕ → Bool
 goodFrom vs es least place = ruledFrom es least place && (eqb (place + countsOf es) (length vs) && runsOk es vs place)
+
+-- the pass leaves 31999 to the last number
+abbrev pub passFrom : List ℕ → List Entry → ℕ → ℕ → Bool
+passFrom vs es least place = leb least 32000 && goodFrom vs es least place
 
 rule-tests : (p q a b d : Bool) → ((p && a) && (q && b) && d) ≡ (p && q && (a && b && d))
 rule-tests false q a b d = refl
@@ -133,6 +137,10 @@ value-tests true false g false r s h = simp and-false
 value-tests true false g true false s h = simp and-false
 value-tests true false g true true s h = simp and-false
 
+regroup : (m p f r g : Bool) → (m && p && f && r && g) ≡ (m && (p && f && r) && g)
+regroup false p f r g = refl
+regroup true p f r g = refl
+
 module _ (e : Entry) (es : List Entry) (least place : ℕ) where
   rule-step : ruledFrom (e ∷ es) least place ≡ (leb least (e .number) && entryOk e && ruledFrom es (e .number + 1) (place + countOf e))
   unfolding risingFrom eachOk countsOf
@@ -149,12 +157,9 @@ module _ (e : Entry) (es : List Entry) (least place : ℕ) where
   pub rule-on : least ≤ e .number → entryOk e ≡ true → ruledFrom (e ∷ es) least place ≡ ruledFrom es (e .number + 1) (place + countOf e)
   rule-on h o = rule-step ∙ simp (le-leb _ _ h, o)
 
-  pub good-low : (vs : List ℕ) → e .number < least → goodFrom vs (e ∷ es) least place ≡ false
-  good-low vs h = rw (rule-low h)
-
-  -- `fine` is what the code has for the record and its values
+  -- the record, its values, and what is left
   good-step : (vs : List ℕ) → least ≤ e .number → goodFrom vs (e ∷ es) least place
-      ≡ (fineOf e vs place && goodFrom vs es (e .number + 1) (place + countOf e))
+      ≡ (leb (e .number) 31999 && fineOf e vs place && goodFrom vs es (e .number + 1) (place + countOf e))
   unfolding countsOf runsOk
   good-step vs h =
       let c = place + countOf e in
@@ -163,15 +168,27 @@ module _ (e : Entry) (es : List Entry) (least place : ℕ) where
       let z : place + (countOf e + k) ≡ c + k = omega arith in
       let there : eqb (c + k) l ≡ true → leb c l ≡ true = λ q. le-leb c l (omega (arith, eqb-true (c + k) l q)) in
       rw (rule-step, le-leb least (e .number) h, z)
-      (value-tests (entryOk e) (eqb (c + k) l) (ruledFrom es (e .number + 1) c) (leb c l) (runOk e vs (countOf e) place) (runsOk es vs c) there)
+      (value-tests (entryOk e) (eqb (c + k) l) (ruledFrom es (e .number + 1) c) (leb c l) (runOk e vs (countOf e) place) (runsOk es vs c) there
+      ∙ rw (entry-plain e)
+      (regroup (leb (e .number) 31999) (plainOk e) (leb c l) (runOk e vs (countOf e) place) (goodFrom vs es (e .number + 1) c)))
 
-  pub good-broken : (vs : List ℕ) (fine : Bool) → least ≤ e .number → fine ≡ fineOf e vs place → fine ≡ false
-      → goodFrom vs (e ∷ es) least place ≡ false
-  good-broken vs fine h q f = good-step vs h ∙ rw (← q, f)
+  pub pass-low : (vs : List ℕ) → e .number < least → passFrom vs (e ∷ es) least place ≡ false
+  pass-low vs h = rw (rule-low h, and-false (leb least 32000))
 
-  pub good-on : (vs : List ℕ) (fine : Bool) → least ≤ e .number → fine ≡ fineOf e vs place → fine ≡ true
-      → goodFrom vs (e ∷ es) least place ≡ goodFrom vs es (e .number + 1) (place + countOf e)
-  good-on vs fine h q f = good-step vs h ∙ rw (← q, f)
+  -- `fine` is what the code has for the record and its values
+  pub pass-broken : (vs : List ℕ) (fine : Bool) → least ≤ e .number → fine ≡ fineOf e vs place → fine ≡ false
+      → passFrom vs (e ∷ es) least place ≡ false
+  pass-broken vs fine h q f = rw (good-step vs h, ← q, f, and-false (leb (e .number) 31999), and-false (leb least 32000))
+
+  pub pass-on : (vs : List ℕ) (fine : Bool) → least ≤ e .number → fine ≡ fineOf e vs place → fine ≡ true
+      → passFrom vs (e ∷ es) least place ≡ passFrom vs es (e .number + 1) (place + countOf e)
+  pass-on vs fine h q f = rw (good-step vs h, ← q, f) (go (leb (e .number) 31999) refl)
+    where
+      rest : Bool
+      rest = goodFrom vs es (e .number + 1) (place + countOf e)
+      go : (b : Bool) → leb (e .number) 31999 ≡ b → (leb least 32000 && (b && true && rest)) ≡ (leb (e .number + 1) 32000 && rest)
+      go true p = let n = leb-true (e .number) 31999 p in rw (le-leb least 32000 (omega arith), le-leb (e .number + 1) 32000 (omega arith))
+      go false p = let n = leb-false (e .number) 31999 p in rw (lt-leb (e .number + 1) 32000 (omega arith), and-false (leb least 32000))
 
 -- no record is left
 module _ (least place : ℕ) where
@@ -179,12 +196,15 @@ module _ (least place : ℕ) where
   unfolding risingFrom eachOk countsOf
   rule-end = simp add-zero
 
-  pub good-over : (vs : List ℕ) → 4096 < place → goodFrom vs [] least place ≡ false
-  good-over vs h = rw (rule-end, lt-leb _ _ h)
+  pub pass-high : (vs : List ℕ) → 32000 < least → passFrom vs [] least place ≡ false
+  pass-high vs h = rw (lt-leb _ _ h)
 
-  pub good-end : (vs : List ℕ) → place ≤ 4096 → goodFrom vs [] least place ≡ eqb place (length vs)
+  pub pass-over : (vs : List ℕ) → 4096 < place → passFrom vs [] least place ≡ false
+  pass-over vs h = rw (rule-end, lt-leb _ _ h, and-false (leb least 32000))
+
+  pub pass-end : (vs : List ℕ) → least ≤ 32000 → place ≤ 4096 → passFrom vs [] least place ≡ eqb place (length vs)
   unfolding countsOf runsOk
-  good-end vs h = rw (rule-end, le-leb _ _ h) (simp (add-zero, and-true))
+  pass-end vs l h = rw (le-leb _ _ l, rule-end, le-leb _ _ h) (simp (add-zero, and-true))
 
 -- all records of a table of n whole ones
 module _ (t : List ℕ) (n : ℕ) (whole : length t ≡ 12 * n) (few : n ≤ 512) where
@@ -194,9 +214,9 @@ module _ (t : List ℕ) (n : ℕ) (whole : length t ≡ 12 * n) (few : n ≤ 512
       let count : length t / 12 ≡ n = omega arith in
       rw (eq-eqb (length t % 12) 0 (omega arith), le-leb (length t / 12) 512 (omega arith), count, zero-add)
 
-  pub good-all : (vs : List ℕ) → (tableOk t && valuesOk t vs) ≡ goodFrom vs (entriesFrom t n 0) 0 0
+  pub pass-all : (vs : List ℕ) → (tableOk t && valuesOk t vs) ≡ passFrom vs (entriesFrom t n 0) 0 0
   unfolding entries
-  good-all vs =
+  pass-all vs =
       let count : length t / 12 ≡ n = omega arith in
       rw (rule-all, count, zero-add)
 

@@ -3,11 +3,11 @@
 ghost use mathlib.Core.Path.{_≡_};
 ghost use mathlib.Core.Bool.{true, _&&_};
 ghost use Prim.Native.Nat.{_+_, _*_, _≤_};
-ghost use lib.Dec.{leb};
+ghost use lib.Dec.{eqb, leb};
 ghost use lib.ListN.{length};
 ghost use Rattle.words.specs.Words.{doubleAt};
 ghost use Rattle.entry.specs.Fields.{countOf};
-ghost use Rattle.entry.specs.Limits.{fitsIn, atMost, isWithin, entryOk};
+ghost use Rattle.entry.specs.Limits.{fitsIn, atMost, isWithin};
 ghost use Rattle.opening.specs.Rules.{runOk, tableOk, valuesOk};
 ghost use Rattle.opening.specs.Answers.{contentOf, openingOf};
 use entry::Entry;
@@ -35,19 +35,12 @@ pub enum Opening {
 
 // ---- a record
 
-// Record k, of n; past the last record zeros.
-fn record_at(t: &[u8], k: usize, n: usize) -> Record
-    requires { ⌜ (length (now t) ≡ 12 * n) × (k ≤ 512) ⌝ }
+// Record k of a table that has it.
+fn record_at(t: &[u8], k: usize) -> Record
+    requires { ⌜ 12 * k + 12 ≤ length (now t) ⌝ }
     ensures { λ r. ⌜ (r .head ≡ doubleAt (now (t .entry)) (12 * k)) × (r .minimum ≡ doubleAt (now (t .entry)) (12 * k + 4)) × (r .maximum ≡ doubleAt (now (t .entry)) (12 * k + 8)) ⌝ }
 {
-    if k < n {
-        return record_of(&t[12 * k..12 * k + 12]);
-    }
-    Record {
-        head: 0,
-        minimum: 0,
-        maximum: 0,
-    }
+    record_of(&t[12 * k..12 * k + 12])
 }
 
 // Whether a record's limits are in order and a value is within them: a value between limits that fit shows these in order.
@@ -108,16 +101,11 @@ struct Run {
     fine: bool,
 }
 
+// The record's number is left to the pass.
 fn check_record(e: Entry, values: &[u32], place: usize) -> Run
     requires { ⌜ place ≤ 1000000 ⌝ }
-    ensures { λ r. ⌜ (r .fine ≡ (entryOk e && leb (place + countOf e) (length (now (values .entry))) && runOk e (now (values .entry)) (countOf e) place)) × (r .fine ≡ true → r .next ≡ place + countOf e) ⌝ }
+    ensures { λ r. ⌜ (r .fine ≡ (leb (e .elements) 254 && eqb (e .spare) 0 && (fitsIn (e .double) (e .minimum) && fitsIn (e .double) (e .maximum) && atMost (e .double) (e .signed) (e .minimum) (e .maximum)) && leb (place + countOf e) (length (now (values .entry))) && runOk e (now (values .entry)) (countOf e) place)) × (r .fine ≡ true → r .next ≡ place + countOf e) ⌝ }
 {
-    if 31999 < e.number {
-        return Run {
-            next: place,
-            fine: false,
-        };
-    }
     if e.spare != 0 {
         return Run {
             next: place,
@@ -145,16 +133,20 @@ fn check_record(e: Entry, values: &[u32], place: usize) -> Run
 
 // ---- the table and its values
 
-// Whether n records and their values are all in order.
+// Whether n records and their values are all in order. Numbers rise, so that the last one alone tells whether one is over 31999;
+// the next record is read before this one's turn ends.
 fn in_order(t: &[u8], values: &[u32], n: usize) -> bool
     requires { ⌜ (length (now t) ≡ 12 * n) × (n ≤ 512) ⌝ }
     ensures { λ r. ⌜ r ≡ (tableOk (now (t .entry)) && valuesOk (now (t .entry)) (now (values .entry))) ⌝ }
 {
+    if n == 0 {
+        return 0 == values.len();
+    }
     let mut least: u16 = 0;
     let mut place: usize = 0;
     let mut k: usize = 0;
-    let mut next = record_at(t, 0, n);
-    while k < n {
+    let mut next = record_at(t, 0);
+    loop {
         let e = entry_of(next.head, next.minimum, next.maximum);
         if e.number < least {
             return false;
@@ -166,7 +158,13 @@ fn in_order(t: &[u8], values: &[u32], n: usize) -> bool
         least = e.number + 1;
         place = run.next;
         k += 1;
-        next = record_at(t, k, n);
+        if n <= k {
+            break;
+        }
+        next = record_at(t, k);
+    }
+    if 32000 < least {
+        return false;
     }
     if 4096 < place {
         return false;
@@ -183,7 +181,7 @@ fn table_ok(t: &[u8], n: usize) -> bool
     let mut place: usize = 0;
     let mut k: usize = 0;
     while k < n {
-        let next = record_at(t, k, n);
+        let next = record_at(t, k);
         let e = entry_of(next.head, next.minimum, next.maximum);
         if e.number < least {
             return false;

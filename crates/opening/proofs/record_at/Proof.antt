@@ -1,9 +1,8 @@
 -- `opening::record_at` meets its contract. Assumes nothing.
 use Prim.Native.Nat.{_+_, _-_, _*_}
-use mathlib.Core.Path.{sym, ap, _∙_}
+use mathlib.Core.Path.{ap, _∙_}
 use native.Mathlib.Omega.{arith}
 use denote.Ref.{now}
-use Rattle.words.proofs.WordsLaws.{double-past}
 use Rattle.table.specs.declared.Record.{Record}
 use Rattle.table.proofs.RecordsLaws.{record-part}
 use borrow.Author.Needs.{needs}
@@ -36,16 +35,9 @@ record-of-requires c κs = search needs
 
 returns : tie.Need-returns
 returns c =
-    let a = c .before .before .before .before .args in
+    let a = c .before .before .before .args in
     let r = c .record-of .ensures ∙ record-part (now (a .t)) (a .k) (12 * a .k + 12 - 12 * a .k) (omega arith) (omega arith) in
     (ap (λ (x : Record). x .head) r, ap (λ (x : Record). x .minimum) r, ap (λ (x : Record). x .maximum) r)
-
-returns-2 : tie.Need-returns-2
-returns-2 c =
-    let a = c .before .before in
-    let k = 12 * a .args .k in
-    let t = now (a .args .t) in
-    (sym (double-past t k (omega arith)), sym (double-past t (k + 4) (omega arith)), sym (double-past t (k + 8) (omega arith)))
 
 pub record-at-spec : {M : Type 1} → statement M
 record-at-spec =
@@ -58,5 +50,4 @@ record-at-spec =
     part-record-of-start
     part-record-of-end
     record-of-requires
-    returns
-    returns-2)
+    returns)

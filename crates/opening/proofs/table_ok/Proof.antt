@@ -59,7 +59,7 @@ loop-holds c =
     (omega arith, omega arith, rw sub-zero (rule-all (now (a .t)) (a .n) (omega arith) (omega arith)))
 
 record-at-requires : tie.Need-record-at-requires Inv-loop μ-loop
-record-at-requires c κs = let a = c .before .before .before in (a .pre .0, omega (arith, a .pre .1))
+record-at-requires c κs = omega arith
 
 entry-of-requires : tie.Need-entry-of-requires Inv-loop μ-loop
 entry-of-requires c κs = search needs
