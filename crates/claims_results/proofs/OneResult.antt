@@ -44,6 +44,9 @@ use Rattle.net.proofs.write_normal.Reads as net-write-normal
 use Rattle.text.proofs.put_number.Reads as text-put-number
 use Rattle.listing.proofs.list.Reads as listing-list
 use Rattle.slave.proofs.serve.Reads as slave-serve
+use Rattle.master.proofs.build_task.Reads as master-build-task
+use Rattle.master.proofs.build_mirror.Reads as master-build-mirror
+use Rattle.master.proofs.build_broadcast.Reads as master-build-broadcast
 use Rattle.master.proofs.build.Reads as master-build
 use Rattle.uss_c.proofs.uss_slave.Reads as uss-slave
 use Rattle.uss_c.proofs.uss_build_task.Reads as uss-build-task
@@ -211,6 +214,24 @@ pub slave-serve-buffer : OneExit slave-serve.Post (λ κs s. now (s .1 .1 .1 .1 
 slave-serve-buffer κs a r r′ s s′ p p′ = equal-through (p .reply-is) (p′ .reply-is)
 
 -- answer and length; buffer
+pub master-build-task-one : OneResult master-build-task.Post
+master-build-task-one κs a r r′ s s′ p p′ = equal-through (p .answers) (p′ .answers)
+
+pub master-build-task-buffer : OneExit master-build-task.Post (λ κs s. now (s .1 .1 .1 .1 .1 .1 .0))
+master-build-task-buffer κs a r r′ s s′ p p′ = equal-through (p .bytes-are) (p′ .bytes-are)
+
+pub master-build-mirror-one : OneResult master-build-mirror.Post
+master-build-mirror-one κs a r r′ s s′ p p′ = equal-through (p .answers) (p′ .answers)
+
+pub master-build-mirror-buffer : OneExit master-build-mirror.Post (λ κs s. now (s .1 .1 .0))
+master-build-mirror-buffer κs a r r′ s s′ p p′ = equal-through (p .bytes-are) (p′ .bytes-are)
+
+pub master-build-broadcast-one : OneResult master-build-broadcast.Post
+master-build-broadcast-one κs a r r′ s s′ p p′ = equal-through (p .answers) (p′ .answers)
+
+pub master-build-broadcast-buffer : OneExit master-build-broadcast.Post (λ κs s. now (s .1 .1 .1 .1 .1 .0))
+master-build-broadcast-buffer κs a r r′ s s′ p p′ = equal-through (p .bytes-are) (p′ .bytes-are)
+
 pub master-build-one : OneResult master-build.Post
 master-build-one κs a r r′ s s′ p p′ = equal-through (p .answers) (p′ .answers)
 
