@@ -14,6 +14,7 @@ use Rattle.frame.proofs.decode.Reads as frame-decode
 use Rattle.frame.proofs.number_frame_fault.Reads as frame-number-frame-fault
 use Rattle.frame.proofs.number_fault.Reads as frame-number-fault
 use Rattle.setup.proofs.setup_ok.Reads as setup-setup-ok
+use Rattle.setup.proofs.net_bytes.Reads as setup-net-bytes
 use Rattle.entry.proofs.entry_of.Reads as entry-entry-of
 use Rattle.entry.proofs.count_places.Reads as entry-count-places
 use Rattle.entry.proofs.at_most.Reads as entry-at-most
@@ -99,6 +100,9 @@ frame-number-fault-one κs a r r′ s s′ = equal-through
 
 pub setup-setup-ok-one : OneResult setup-setup-ok.Post
 setup-setup-ok-one κs a r r′ s s′ = equal-through
+
+pub setup-net-bytes-one : OneResult setup-net-bytes.Post
+setup-net-bytes-one κs a r r′ s s′ = equal-through
 
 pub entry-entry-of-one : OneResult entry-entry-of.Post
 entry-entry-of-one κs a r r′ s s′ = equal-through

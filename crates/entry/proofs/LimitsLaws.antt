@@ -11,7 +11,7 @@ use borrow.Author.Tests.{le-leb, lt-leb, eq-eqb, ne-eqb, leb-true, eqb-true, eqb
 use Rattle.rows.proofs.BoolLaws.{and-left, and-right, and-both}
 use Rattle.entry.specs.declared.Entry.{Entry}
 use Rattle.entry.specs.Fields.{entryOf, countOf}
-use Rattle.entry.specs.Limits.{signedOf, numberOf, atMost, fitsIn, isWithin, entryOk}
+use Rattle.entry.specs.Limits.{signedOf, numberOf, atMost, fitsIn, isWithin, limitsOk, entryOk}
 
 -- the places of a record
 pub count-none : (e : Entry) → e .elements ≡ 0 → countOf e ≡ 1
@@ -57,29 +57,25 @@ ok-ruled e h =
     let d = fitsIn (e .double) (e .minimum) in
     let f = fitsIn (e .double) (e .maximum) in
     let g = atMost (e .double) (e .signed) (e .minimum) (e .maximum) in
-    let h5 = and-left (a && b && c && d && f) g h in
-    let h4 = and-left (a && b && c && d) f h5 in
-    let h3 = and-left (a && b && c) d h4 in
+    let h3 = and-left (a && b && c) (limitsOk e) h in
     let h2 = and-left (a && b) c h3 in
+    let limits = and-right (a && b && c) (limitsOk e) h in
+    let fit = and-left (d && f) g limits in
     record {
       numbers = leb-true (e .number) 31999 (and-left a b h2);
       elements-few = leb-true (e .elements) 254 (and-right a b h2);
       spare-none = eqb-true (e .spare) 0 (and-right (a && b) c h3);
-      low-fits = and-right (a && b && c) d h4;
-      high-fits = and-right (a && b && c && d) f h5;
-      ordered = and-right (a && b && c && d && f) g h;
+      low-fits = and-left d f fit;
+      high-fits = and-right d f fit;
+      ordered = and-right (d && f) g limits;
     }
 
 pub ruled-passes : (e : Entry) → Ruled e → entryOk e ≡ true
 unfolding entryOk
 ruled-passes e f =
     and-both
-    (and-both
-    (and-both
     (and-both (and-both (le-leb _ _ (f .numbers)) (le-leb _ _ (f .elements-few))) (eq-eqb _ _ (f .spare-none)))
-    (f .low-fits))
-    (f .high-fits))
-    (f .ordered)
+    (and-both (and-both (f .low-fits) (f .high-fits)) (f .ordered))
 
 -- a value within the limits of a word has no upper half
 pub within-fits : (e : Entry) (v : ℕ) → isWithin e v ≡ true → fitsIn (e .double) v ≡ true

@@ -4,6 +4,7 @@
 --     atMost double signed a b       the one comparison of all four kinds
 --     fitsIn double x                a word's upper half is zero
 --     isWithin e v                   v is within e's limits
+--     limitsOk e                     e's limits keep the rules
 --     entryOk e                      e's number, elements, spare bits and limits keep the rules
 use Prim.Native.Nat.{ℕ, _%_}
 use mathlib.Core.Bool.{Bool, true, false, _&&_}
@@ -38,11 +39,9 @@ isWithin e v =
     && atMost (e .double) (e .signed) (e .minimum) v
     && atMost (e .double) (e .signed) v (e .maximum)
 
+-- a word's limits have no upper half, and the minimum is at most the maximum
+abbrev pub limitsOk : Entry → Bool
+limitsOk e = fitsIn (e .double) (e .minimum) && fitsIn (e .double) (e .maximum) && atMost (e .double) (e .signed) (e .minimum) (e .maximum)
+
 unfoldable pub entryOk : Entry → Bool
-entryOk e =
-    leb (e .number) 31999
-    && leb (e .elements) 254
-    && eqb (e .spare) 0
-    && fitsIn (e .double) (e .minimum)
-    && fitsIn (e .double) (e .maximum)
-    && atMost (e .double) (e .signed) (e .minimum) (e .maximum)
+entryOk e = leb (e .number) 31999 && leb (e .elements) 254 && eqb (e .spare) 0 && limitsOk e

@@ -10,7 +10,7 @@ use lib.ListN.{length, getD}
 use lib.Dec.{eqb, leb}
 use Rattle.entry.specs.declared.Entry.{Entry}
 use Rattle.entry.specs.Fields.{countOf}
-use Rattle.entry.specs.Limits.{atMost, fitsIn, isWithin, entryOk}
+use Rattle.entry.specs.Limits.{limitsOk, isWithin, entryOk}
 use Rattle.table.specs.Records.{entries, entriesFrom, countsOf}
 use Rattle.opening.specs.declared.Opening.the-variants.{Passed, Refused}
 use Rattle.opening.specs.declared.OpeningFault.the-variants.{BadTable, BadValues}
@@ -18,10 +18,6 @@ use Rattle.opening.specs.Rules.{risingFrom, eachOk, runOk, runsOk, table
 use Rattle.opening.specs.Answers.{contentOf}
 
 -- ---- one record
-
--- a record's limits are in order
-abbrev pub limitsOk : Entry → Bool
-limitsOk e = fitsIn (e .double) (e .minimum) && fitsIn (e .double) (e .maximum) && atMost (e .double) (e .signed) (e .minimum) (e .maximum)
 
 -- limits that do not fit
 pub low-unfit : (a b m w : Bool) → a ≡ false → false ≡ (a && b && m && w)
@@ -75,16 +71,14 @@ run-one e vs place r h q = rw (q, le-leb (place + 1) (length vs) (omega arith), 
 abbrev pub plainOk : Entry → Bool
 plainOk e = leb (e .elements) 254 && eqb (e .spare) 0 && limitsOk e
 
-six-tests : (n s p f g m : Bool) → (n && s && p && f && g && m) ≡ (n && (s && p && (f && g && m)))
-six-tests false s p f g m = refl
-six-tests true false p f g m = refl
-six-tests true true false f g m = refl
-six-tests true true true f g m = refl
+four-tests : (n s p l : Bool) → (n && s && p && l) ≡ (n && (s && p && l))
+four-tests false s p l = refl
+four-tests true s p l = refl
 
 module _ (e : Entry) where
   entry-plain : entryOk e ≡ (leb (e .number) 31999 && plainOk e)
   unfolding entryOk
-  entry-plain = six-tests (leb (e .number) 31999) (leb (e .elements) 254) (eqb (e .spare) 0) (fitsIn (e .double) (e .minimum)) (fitsIn (e .double) (e .maximum)) (atMost (e .double) (e .signed) (e .minimum) (e .maximum))
+  entry-plain = four-tests (leb (e .number) 31999) (leb (e .elements) 254) (eqb (e .spare) 0) (limitsOk e)
 
   pub elements-over : 254 < e .elements → plainOk e ≡ false
   elements-over h = simp (lt-leb _ _ h)
@@ -186,6 +180,7 @@ module _ (e : Entry) (es : List Entry) (least place : ℕ) where
     where
       rest : Bool
       rest = goodFrom vs es (e .number + 1) (place + countOf e)
+
       go : (b : Bool) → leb (e .number) 31999 ≡ b → (leb least 32000 && (b && true && rest)) ≡ (leb (e .number + 1) 32000 && rest)
       go true p = let n = leb-true (e .number) 31999 p in rw (le-leb least 32000 (omega arith), le-leb (e .number + 1) 32000 (omega arith))
       go false p = let n = leb-false (e .number) 31999 p in rw (lt-leb (e .number + 1) 32000 (omega arith), and-false (leb least 32000))

@@ -7,7 +7,7 @@ ghost use lib.Dec.{eqb, leb};
 ghost use lib.ListN.{length};
 ghost use Rattle.words.specs.Words.{doubleAt};
 ghost use Rattle.entry.specs.Fields.{countOf};
-ghost use Rattle.entry.specs.Limits.{fitsIn, atMost, isWithin};
+ghost use Rattle.entry.specs.Limits.{limitsOk, isWithin};
 ghost use Rattle.opening.specs.Rules.{runOk, tableOk, valuesOk};
 ghost use Rattle.opening.specs.Answers.{contentOf, openingOf};
 use entry::Entry;
@@ -45,7 +45,7 @@ fn record_at(t: &[u8], k: usize) -> Record
 
 // Whether a record's limits are in order and a value is within them: a value between limits that fit shows these in order.
 fn holds(e: Entry, v: u32) -> bool
-    ensures { λ r. ⌜ r ≡ (fitsIn (e .double) (e .minimum) && fitsIn (e .double) (e .maximum) && atMost (e .double) (e .signed) (e .minimum) (e .maximum) && isWithin e v) ⌝ }
+    ensures { λ r. ⌜ r ≡ (limitsOk e && isWithin e v) ⌝ }
 {
     if e.double {
         return within(e, v);
@@ -69,7 +69,7 @@ fn hold_both(a: bool, b: bool) -> bool
 // The same of the value at a place, which must be there.
 fn value_holds(e: Entry, values: &[u32], place: usize) -> bool
     requires { ⌜ place ≤ 1000000 ⌝ }
-    ensures { λ r. ⌜ r ≡ (fitsIn (e .double) (e .minimum) && fitsIn (e .double) (e .maximum) && atMost (e .double) (e .signed) (e .minimum) (e .maximum) && leb (place + 1) (length (now (values .entry))) && runOk e (now (values .entry)) 1 place) ⌝ }
+    ensures { λ r. ⌜ r ≡ (limitsOk e && leb (place + 1) (length (now (values .entry))) && runOk e (now (values .entry)) 1 place) ⌝ }
 {
     if values.len() <= place {
         return false;
@@ -81,7 +81,7 @@ fn value_holds(e: Entry, values: &[u32], place: usize) -> bool
 // several values at once.
 fn run_holds(e: Entry, values: &[u32], n: usize, place: usize) -> bool
     requires { ⌜ (place ≤ 1000000) × (1 ≤ n) × (n ≤ 1000000) ⌝ }
-    ensures { λ r. ⌜ r ≡ (fitsIn (e .double) (e .minimum) && fitsIn (e .double) (e .maximum) && atMost (e .double) (e .signed) (e .minimum) (e .maximum) && leb (place + n) (length (now (values .entry))) && runOk e (now (values .entry)) n place) ⌝ }
+    ensures { λ r. ⌜ r ≡ (limitsOk e && leb (place + n) (length (now (values .entry))) && runOk e (now (values .entry)) n place) ⌝ }
 {
     if values.len() < place + n {
         return false;
@@ -104,7 +104,7 @@ struct Run {
 // The record's number is left to the pass.
 fn check_record(e: Entry, values: &[u32], place: usize) -> Run
     requires { ⌜ place ≤ 1000000 ⌝ }
-    ensures { λ r. ⌜ (r .fine ≡ (leb (e .elements) 254 && eqb (e .spare) 0 && (fitsIn (e .double) (e .minimum) && fitsIn (e .double) (e .maximum) && atMost (e .double) (e .signed) (e .minimum) (e .maximum)) && leb (place + countOf e) (length (now (values .entry))) && runOk e (now (values .entry)) (countOf e) place)) × (r .fine ≡ true → r .next ≡ place + countOf e) ⌝ }
+    ensures { λ r. ⌜ (r .fine ≡ (leb (e .elements) 254 && eqb (e .spare) 0 && limitsOk e && leb (place + countOf e) (length (now (values .entry))) && runOk e (now (values .entry)) (countOf e) place)) × (r .fine ≡ true → r .next ≡ place + countOf e) ⌝ }
 {
     if e.spare != 0 {
         return Run {

@@ -201,7 +201,7 @@ fn read_normal(
     if node != setup.node {
         return refuse(ReadFault::OtherNode);
     }
-    if n != ((setup.pkw as usize) + (setup.pzd as usize)) * 2 {
+    if n != setup::net_bytes(setup) {
         return refuse(ReadFault::OtherLength);
     }
     let none = Words {

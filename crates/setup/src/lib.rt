@@ -1,6 +1,6 @@
 // The set-up of a slave or a master: its node, its parameter words and its process words (document 01, answers 20 and 30).
 ghost use mathlib.Core.Path.{_≡_};
-ghost use Rattle.setup.specs.SetupRules.{setupOk};
+ghost use Rattle.setup.specs.SetupRules.{setupOk, netBytes};
 
 pub struct Setup {
     pub node: u8,
@@ -25,4 +25,11 @@ pub fn setup_ok(setup: Setup) -> bool
         return setup.pzd != 0;
     }
     true
+}
+
+// The net bytes of a telegram of the set-up.
+pub fn net_bytes(setup: Setup) -> usize
+    ensures { λ r. ⌜ r ≡ netBytes setup ⌝ }
+{
+    ((setup.pkw as usize) + (setup.pzd as usize)) * 2
 }

@@ -10,7 +10,7 @@ ghost use Rattle.task.specs.Verdict.{changesAct};
 ghost use Rattle.opening.specs.Answers.{openingOf};
 ghost use Rattle.opening.specs.declared.Opening.the-variants.{Passed};
 ghost use Rattle.setup.specs.SetupRules.{setupOk};
-ghost use Rattle.slave.specs.Perform.{replyArea, elementCount, carried, readReply, idle, doneOf, performOn, performOf, Performs};
+ghost use Rattle.slave.specs.Perform.{replyArea, errorArea, elementCount, carried, readReply, idle, doneOf, performOn, performOf, Performs};
 ghost use Rattle.slave.specs.Slave.{Leaves, refusedServed, taskDone, controlTaken, commandAt, normalCase, mirrorCase, broadcastCase, executeOf, callOf};
 use broadcast::Command;
 use entry::Entry;
@@ -22,6 +22,7 @@ use opening::OpeningFault;
 use setup::Setup;
 use table::Found;
 use task::Act;
+use task::ParameterError;
 use task::Task;
 use task::Verdict;
 use task::Width;
@@ -63,6 +64,13 @@ fn reply_area(area: Area, id: u8, value: u32) -> Area
         ind: area.ind / 4096 * 4096 + area.ind % 256,
         value,
     }
+}
+
+// The reply's area of an error: ID 7 and the error's number.
+fn error_area(area: Area, error: ParameterError) -> Area
+    ensures { λ r. ⌜ r ≡ errorArea area error ⌝ }
+{
+    reply_area(area, 7, task::number_error(error) as u32)
 }
 
 // The value that a task carries: a word task only the low word.
@@ -128,7 +136,7 @@ fn run_act(
             reply_area(area, reply, value)
         }
         Act::Count => reply_area(area, reply, count_elements(elements)),
-        Act::Refuse => reply_area(area, 7, 106),
+        Act::Refuse => error_area(area, ParameterError::NoTask),
     }
 }
 
@@ -167,7 +175,7 @@ fn perform_on(n: u8, task: Task, area: Area, e: Entry, values: &mut [u32], first
         n,
     );
     match verdict {
-        Verdict::Denied(error) => reply_area(area, 7, task::number_error(error) as u32),
+        Verdict::Denied(error) => error_area(area, error),
         Verdict::Granted => {
             let element = task::pick_element(task.array, e.elements, index);
             let place = first + element as usize;
@@ -247,11 +255,11 @@ fn perform(n: u8, table: &[u8], values: &mut [u32], area: Area) -> Area
         };
     }
     if 2000 <= area.pke % 2048 {
-        return reply_area(area, 7, 0);
+        return error_area(area, ParameterError::NoParameter);
     }
     let number = task::full_number(area.pke, area.ind);
     match table::find(table, number) {
-        Found::Nothing => reply_area(area, 7, 0),
+        Found::Nothing => error_area(area, ParameterError::NoParameter),
         Found::At(k) => {
             let e = read_record(table, k);
             let first = first_place(table, k, values.len());
@@ -342,7 +350,7 @@ fn serve_normal(
     if node != setup.node {
         return refuse(Refusal::OtherNode, control);
     }
-    if n != ((setup.pkw as usize) + (setup.pzd as usize)) * 2 {
+    if n != setup::net_bytes(setup) {
         return refuse(Refusal::OtherLength, control);
     }
     let area = run_task(setup.pkw, table, values, received);
@@ -376,7 +384,7 @@ fn serve_broadcast(setup: Setup, control: Words, received: &[u8], n: usize) -> S
     requires { ⌜ (setupOk setup ≡ true) × (length (now received) ≡ n + 4) ⌝ }
     ensures { λ r. ⌜ r ≡ broadcastCase n setup control (now (received .entry)) ⌝ }
 {
-    if n != ((setup.pkw as usize) + (setup.pzd as usize)) * 2 {
+    if n != setup::net_bytes(setup) {
         return refuse(Refusal::OtherLength, control);
     }
     let command = read_command(received, setup.pkw);

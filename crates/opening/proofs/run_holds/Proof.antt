@@ -8,8 +8,9 @@ use borrow.Author.Needs.{needs}
 use borrow.Author.Tests.{le-leb, lt-leb}
 use denote.Ref.{now}
 use lib.ListN.{length}
+use Rattle.entry.specs.Limits.{limitsOk}
 use Rattle.opening.specs.Rules.{runOk}
-use Rattle.opening.proofs.PassLaws.{limitsOk, run-on, run-end, shown, run-all, run-short}
+use Rattle.opening.proofs.PassLaws.{run-on, run-end, shown, run-all, run-short}
 use Rattle.opening.proofs.run_holds.Statement.{statement}
 use Rattle.opening.proofs.run_holds.Tie as tie
 use Rattle.opening.proofs.run_holds.Reads as reads

@@ -4,8 +4,9 @@ use native.Mathlib.Omega.{arith}
 use denote.Ref.{now}
 use lib.ListN.{length}
 use borrow.Author.Tests.{lt-leb}
+use Rattle.entry.specs.Limits.{limitsOk}
 use Rattle.opening.specs.Rules.{runOk}
-use Rattle.opening.proofs.PassLaws.{limitsOk, run-short, run-one}
+use Rattle.opening.proofs.PassLaws.{run-short, run-one}
 use borrow.Author.Needs.{needs}
 use Rattle.opening.proofs.value_holds.Statement.{statement}
 use Rattle.opening.proofs.value_holds.Tie as tie

@@ -19,7 +19,7 @@ use Rattle.slave.proofs.first_place.Reads as first-place-reads
 use Rattle.slave.proofs.is_idle.Reads as is-idle-reads
 use Rattle.slave.proofs.perform_on.Reads as perform-on-reads
 use Rattle.slave.proofs.read_record.Reads as read-record-reads
-use Rattle.slave.proofs.reply_area.Reads as reply-area-reads
+use Rattle.slave.proofs.error_area.Reads as error-area-reads
 use Rattle.table.proofs.find.Reads as find-reads
 use Rattle.task.proofs.full_number.Reads as full-number-reads
 use Rattle.task.proofs.task_of.Reads as task-of-reads
@@ -52,8 +52,8 @@ returns c =
     rw (perform-is d ∙ task-idle (a .n) (d .task-of .result) (a .table .now) (a .values .now) (a .area) (sym (c .before .is-idle .ensures) ∙ c .if1 .taken))
     (record { area-is = refl; values-are = refl })
 
-reply-area-requires : tie.Need-reply-area-requires
-reply-area-requires c κs = search needs
+error-area-requires : tie.Need-error-area-requires
+error-area-requires c κs = search needs
 
 returns-2 : tie.Need-returns-2
 returns-2 c =
@@ -61,7 +61,7 @@ returns-2 c =
     let d = i .before .before in
     let a = d .before .before .before .before .args in
     rw (perform-is d ∙ task-unnamed (a .n) (d .task-of .result) (a .table .now) (a .values .now) (a .area) (busy i) (c .before .if2 .taken))
-    (record { area-is = c .reply-area .ensures; values-are = refl })
+    (record { area-is = c .error-area .ensures; values-are = refl })
 
 full-number-requires : tie.Need-full-number-requires
 full-number-requires c κs = search needs
@@ -72,8 +72,8 @@ find-requires c κs = search needs
 enum-told : tie.Need-enum-told
 enum-told c = search needs
 
-reply-area-requires-2 : tie.Need-reply-area-requires-2
-reply-area-requires-2 c κs = search needs
+error-area-requires-2 : tie.Need-error-area-requires-2
+error-area-requires-2 c κs = search needs
 
 enum-known-k : tie.Need-enum-known-k
 enum-known-k c = search needs
@@ -103,7 +103,7 @@ returns-3 c =
     let d = f .before .before .before .before .before .before in
     let a = d .before .before .before .before .args in
     rw (perform-is d ∙ task-found (a .n) (d .task-of .result) (a .table .now) (a .values .now) (a .area) Nothing (busy (f .before .before .before .before)) (f .before .before .if2 .left) (find-gives f ∙ c .before .enum-told .given .1))
-    (record { area-is = c .reply-area2 .ensures; values-are = refl })
+    (record { area-is = c .error-area2 .ensures; values-are = refl })
 
 same-length : tie.Need-same-length
 same-length c = search needs
@@ -130,12 +130,12 @@ perform-spec =
     task-of-requires
     is-idle-requires
     returns
-    reply-area-requires
+    error-area-requires
     returns-2
     full-number-requires
     find-requires
     enum-told
-    reply-area-requires-2
+    error-area-requires-2
     enum-known-k
     read-record-requires
     first-place-requires

@@ -9,10 +9,9 @@ use Rattle.slave.proofs.perform_on.Reads as reads
 use Rattle.slave.proofs.perform_on.Lts as lts
 use Rattle.slave.proofs.carry.Reads as carry-reads
 use Rattle.slave.proofs.is_inside.Reads as is-inside-reads
-use Rattle.slave.proofs.reply_area.Reads as reply-area-reads
+use Rattle.slave.proofs.error_area.Reads as error-area-reads
 use Rattle.slave.proofs.run_act.Reads as run-act-reads
 use Rattle.task.proofs.judge.Reads as judge-reads
-use Rattle.task.proofs.number_error.Reads as number-error-reads
 use Rattle.task.proofs.pick_element.Reads as pick-element-reads
 
 judge-gives : (c : tie.After-judge) → (let a = c .before .before .before .before .before .args in c .judge .result ≡ verdictFor (a .n) (a .task) (a .area) (a .e))
@@ -33,14 +32,8 @@ judge-requires c κs = search needs
 enum-known-verdict : tie.Need-enum-known-verdict
 enum-known-verdict c = search needs
 
-number-error-requires : tie.Need-number-error-requires
-number-error-requires c κs = search needs
-
-cast-reply-area : tie.Need-cast-reply-area
-cast-reply-area c = search needs
-
-reply-area-requires : tie.Need-reply-area-requires
-reply-area-requires c κs = search needs
+error-area-requires : tie.Need-error-area-requires
+error-area-requires c κs = search needs
 
 enum-told : tie.Need-enum-told
 enum-told c = search needs
@@ -64,10 +57,10 @@ run-act-requires c κs =
 
 returns : tie.Need-returns
 returns c =
-    let j = c .before .before .before .before .before in
+    let j = c .before .before .before .before in
     let a = j .before .before .before .before .before .args in
-    let d = task-denied (a .n) (a .task) (a .area) (a .e) (a .values .now) (a .first) _ (sym (judge-gives j) ∙ c .before .before .before .verdict .given .1) in
-    rw d (record { area-is = c .reply-area .ensures ∙ rw (c .before .number-error .ensures); values-are = refl })
+    let d = task-denied (a .n) (a .task) (a .area) (a .e) (a .values .now) (a .first) _ (sym (judge-gives j) ∙ c .before .before .verdict .given .1) in
+    rw d (record { area-is = c .error-area .ensures; values-are = refl })
 
 same-length : tie.Need-same-length
 same-length c = search needs
@@ -90,9 +83,7 @@ perform-on-spec =
     is-inside-requires
     judge-requires
     enum-known-verdict
-    number-error-requires
-    cast-reply-area
-    reply-area-requires
+    error-area-requires
     enum-told
     pick-element-requires
     cast-place

@@ -8,6 +8,7 @@ use Rattle.slave.proofs.run_act.Reads as reads
 use Rattle.slave.proofs.run_act.Lts as lts
 use Rattle.slave.proofs.count_elements.Reads as count-elements-reads
 use Rattle.slave.proofs.read_id.Reads as read-id-reads
+use Rattle.slave.proofs.error_area.Reads as error-area-reads
 use Rattle.slave.proofs.reply_area.Reads as reply-area-reads
 use Rattle.slave.proofs.store.Reads as store-reads
 
@@ -52,8 +53,8 @@ reply-area-requires-3 c κs = search needs
 enum-told-5 : tie.Need-enum-told-5
 enum-told-5 c = search needs
 
-reply-area-requires-4 : tie.Need-reply-area-requires-4
-reply-area-requires-4 c κs = search needs
+error-area-requires : tie.Need-error-area-requires
+error-area-requires c κs = search needs
 
 returns : tie.Need-returns
 returns c = rw (c .enum-told .given .1) (record { area-is = refl; values-are = refl })
@@ -71,7 +72,7 @@ returns-4 : tie.Need-returns-4
 returns-4 c = rw (c .before .before .enum-told4 .given .1) (record { area-is = c .reply-area3 .ensures ∙ rw (c .before .count-elements .ensures); values-are = refl })
 
 returns-5 : tie.Need-returns-5
-returns-5 c = rw (c .before .enum-told5 .given .1) (record { area-is = c .reply-area4 .ensures; values-are = refl })
+returns-5 c = rw (c .before .enum-told5 .given .1) (record { area-is = c .error-area .ensures; values-are = refl })
 
 pub run-act-spec : {M : Type 1} → statement M
 run-act-spec =
@@ -90,7 +91,7 @@ run-act-spec =
     count-elements-requires
     reply-area-requires-3
     enum-told-5
-    reply-area-requires-4
+    error-area-requires
     returns
     returns-2
     same-length

@@ -4,7 +4,8 @@ use mathlib.Core.Path.{_≡_, sym, _∙_}
 use mathlib.Core.Bool.{false}
 use native.Mathlib.Omega.{arith}
 use lib.ListN.{length}
-use Rattle.rows.proofs.RowsLaws.{tests}
+use borrow.Author.Tests.{ne-eqb}
+use Rattle.setup.specs.SetupRules.{netBytes}
 use Rattle.setup.proofs.SetupLaws.{ok-configured, area-words}
 use Rattle.broadcast.specs.Broadcast.{isVoid}
 use Rattle.slave.specs.Slave.{firstWord, commandAt, broadcastCase}
@@ -19,47 +20,42 @@ use Rattle.broadcast.proofs.is_void.Reads as is-void-reads
 use Rattle.net.proofs.read_process.Reads as read-process-reads
 use Rattle.slave.proofs.read_command.Reads as read-command-reads
 use Rattle.slave.proofs.refuse.Reads as refuse-reads
+use Rattle.setup.proofs.net_bytes.Reads as net-bytes-reads
 
-cast-if1 : tie.Need-cast-if1
-cast-if1 c = search needs
-
-cast-if1-2 : tie.Need-cast-if1-2
-cast-if1-2 c = search needs
-
-add-if1 : tie.Need-add-if1
-add-if1 c = search needs
-
-mul-if1 : tie.Need-mul-if1
-mul-if1 c = search needs
+net-bytes-requires : tie.Need-net-bytes-requires
+net-bytes-requires c κs = search needs
 
 refuse-requires : tie.Need-refuse-requires
 refuse-requires c κs = search needs
 
 returns : tie.Need-returns
 unfolding broadcastCase
-returns c = search (tests, c .refuse .ensures)
+returns c = c .refuse .ensures ∙ sym (rw (ne-eqb _ _ (λ e. c .before .if1 .taken (e ∙ sym (c .before .before .net-bytes .ensures)))))
+
+-- the telegram has the set-up's words
+long : (c : tie.Else1) → (let a = c .before .before .before .args in a .n ≡ netBytes (a .setup))
+long c = c .if1 .left ∙ c .before .net-bytes .ensures
+
+there : (c : tie.Else1) → (let a = c .before .before .before .args in a .setup .pkw * 2 + 3 + a .setup .pzd * 2 ≤ length (a .received .now))
+there c = omega (arith, c .before .before .before .pre .1, long c)
 
 read-command-requires : tie.Need-read-command-requires
 read-command-requires c κs h =
-    let a = c .before .before .before .before in
+    let a = c .before .before .before in
     let w = area-words (a .args .setup) (ok-configured (a .args .setup) (a .pre .0)) h in
-    (w .0, w .1, omega (arith, a .pre .1, c .if1 .left))
+    (w .0, w .1, omega (arith, a .pre .1, long c))
 
 read-process-requires : tie.Need-read-process-requires
 read-process-requires c κs = search needs
 
--- the telegram has the set-up's words
-there : (c : tie.Else1) → (let a = c .before .before .before .before .args in a .setup .pkw * 2 + 3 + a .setup .pzd * 2 ≤ length (a .received .now))
-there c = omega (arith, c .before .before .before .before .pre .1, c .if1 .left)
-
 is-void-requires : tie.Need-is-void-requires
 is-void-requires c κs = search needs
 
-void : (c : tie.After-is-void) → (let a = c .before .before .before .before .before .before .before .args in c .is-void .result ≡ isVoid (commandAt (a .received .now) (a .setup .pkw)) (a .setup .pkw) (a .setup .pzd) (firstWord (a .setup) (a .received .now)))
+void : (c : tie.After-is-void) → (let a = c .before .before .before .before .before .before .args in c .is-void .result ≡ isVoid (commandAt (a .received .now) (a .setup .pkw)) (a .setup .pkw) (a .setup .pzd) (firstWord (a .setup) (a .received .now)))
 void c =
     let p = c .before in
     let e = p .before .before in
-    let a = e .before .before .before .before .args in
+    let a = e .before .before .before .args in
     c .is-void .ensures
     ∙ void-same _ _ (a .setup .pkw) (a .setup .pzd) _ _ (p .before .read-command .ensures) (first-taken (a .setup) (a .control) (a .received .now) (there e) (p .read-process .ensures))
 
@@ -69,7 +65,7 @@ refuse-requires-2 c κs = search needs
 returns-2 : tie.Need-returns-2
 returns-2 c =
     let v = c .before .before in
-    c .refuse2 .ensures ∙ sym (broadcast-void _ _ _ _ (v .before .before .before .if1 .left) (sym (void v) ∙ c .before .if2 .taken))
+    c .refuse2 .ensures ∙ sym (broadcast-void _ _ _ _ (long (v .before .before .before)) (sym (void v) ∙ c .before .if2 .taken))
 
 command-control-requires : tie.Need-command-control-requires
 command-control-requires c κs = search needs
@@ -79,19 +75,16 @@ returns-3 c =
     let v = c .before .before in
     let p = v .before in
     let e = p .before .before in
-    let a = e .before .before .before .before .args in
+    let a = e .before .before .before .args in
     let no : isVoid (commandAt (a .received .now) (a .setup .pkw)) (a .setup .pkw) (a .setup .pzd) (firstWord (a .setup) (a .received .now)) ≡ false = sym (void v) ∙ c .before .if2 .left in
-    sym (broadcast-taken _ (a .setup) (a .control) (a .received .now) (e .if1 .left) no
+    sym (broadcast-taken _ (a .setup) (a .control) (a .received .now) (long e) no
     ∙ sym (rw (c .command-control .ensures, p .before .read-command .ensures (not-void _ _ _ _ no), process-taken (a .setup) (a .control) (a .received .now) (there e) (p .read-process .ensures))))
 
 pub serve-broadcast-spec : {M : Type 1} → statement M
 serve-broadcast-spec =
     tie.close
     (tie.spec
-    cast-if1
-    cast-if1-2
-    add-if1
-    mul-if1
+    net-bytes-requires
     refuse-requires
     returns
     read-command-requires
