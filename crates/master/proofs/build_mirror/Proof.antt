@@ -1,4 +1,5 @@
 -- `master::build_mirror` meets its contract. Assumes nothing.
+use native.Mathlib.Omega.{arith}
 use Rattle.setup.proofs.SetupLaws.{ok-configured}
 use Rattle.request.proofs.RequestLaws.{mirror-asked}
 use Rattle.request.specs.declared.Request.the-variants.{Mirror}
@@ -31,7 +32,7 @@ write-mirror-requires c κs =
     let a = t .before .before .before .before .args in
     let b = tested-buildable (answered t) (c .before .enum-told .given .1) in
     let n = mirror-asked (a .setup) (a .net .now) (b .asked) in
-    (ok-configured (a .setup) (b .setup-good) .nodes, b .room, n .0, n .1)
+    (omega (arith, ok-configured (a .setup) (b .setup-good) .nodes), b .room, n .0, n .1)
 
 enum-known-answer : tie.Need-enum-known-answer
 enum-known-answer c = search needs
