@@ -133,8 +133,8 @@ fn check_record(e: Entry, values: &[u32], place: usize) -> Run
 
 // ---- the table and its values
 
-// Whether n records and their values are all in order. Numbers rise, so that the last one alone tells whether one is over 31999;
-// the next record is read before this one's turn ends.
+// Whether n records and their values are all in order. The number is the upper fifteen bits of a head, so that heads are compared,
+// with the least one that may follow; and numbers rise, so that the last one alone tells whether one is over 31999.
 fn in_order(t: &[u8], values: &[u32], n: usize) -> bool
     requires { ⌜ (length (now t) ≡ 12 * n) × (n ≤ 512) ⌝ }
     ensures { λ r. ⌜ r ≡ (tableOk (now (t .entry)) && valuesOk (now (t .entry)) (now (values .entry))) ⌝ }
@@ -142,20 +142,20 @@ fn in_order(t: &[u8], values: &[u32], n: usize) -> bool
     if n == 0 {
         return 0 == values.len();
     }
-    let mut least: u16 = 0;
+    let mut least: u64 = 0;
     let mut place: usize = 0;
     let mut k: usize = 0;
     let mut next = record_at(t, 0);
     loop {
         let e = entry_of(next.head, next.minimum, next.maximum);
-        if e.number < least {
+        if (next.head as u64) < least {
             return false;
         }
         let run = check_record(e, values, place);
         if !run.fine {
             return false;
         }
-        least = e.number + 1;
+        least = (next.head / 131072) as u64 * 131072 + 131072;
         place = run.next;
         k += 1;
         if n <= k {
@@ -163,7 +163,7 @@ fn in_order(t: &[u8], values: &[u32], n: usize) -> bool
         }
         next = record_at(t, k);
     }
-    if 32000 < least {
+    if 32000 * 131072 < least {
         return false;
     }
     if 4096 < place {
