@@ -2,14 +2,15 @@
 use mathlib.Core.Path.{_≡_, refl}
 use mathlib.Core.Bool.{Bool, true, false, not, cond}
 use mathlib.Core.List.{List, [], _∷_, _++_}
-use Prim.Native.Nat.{ℕ, zero, suc, _+_, _-_, _≤_}
+use Prim.Native.Nat.{ℕ, _+_, _-_, _≤_}
 use native.Mathlib.Omega.{arith}
-use lib.Dec.{lit≤, lit<, leb, ltb, eqb}
+use lib.Dec.{lit≤, leb, ltb, eqb}
 use lib.ListN.{length, take, drop, length-take}
 use Rattle.rows.specs.Rows.{firstOf}
 use Rattle.rows.proofs.RowsLaws.{first-all}
 use Rattle.words.specs.Words.{Bytes}
 use Rattle.words.specs.declared.Words.{Words}
+use Rattle.words.proofs.WordsLaws.{bytes-take}
 use Rattle.setup.specs.declared.Setup.{Setup}
 use Rattle.setup.specs.SetupRules.{setupOk, netBytes}
 use Rattle.setup.proofs.SetupLaws.{Configured, ok-configured, area-few}
@@ -115,12 +116,6 @@ built-most s r net out = go (setupOk s) (expressible s r net) (ltb (length out) 
     go true true false e f = request-most s r net (ok-configured s e) f
 
 -- ---- the listing
-
-bytes-take : (n : ℕ) (t : List ℕ) → Bytes t → Bytes (take n t)
-bytes-take zero t b i = lit< tt
-bytes-take (suc n) [] b i = b i
-bytes-take (suc n) (x ∷ t) b zero = b 0
-bytes-take (suc n) (x ∷ t) b (suc i) = bytes-take n t (λ j. b (suc j)) i
 
 pub listed-most : (received out : List ℕ) → Bytes received → listedOf received out .place ≤ 64
 unfolding listedOf putOut
