@@ -21,7 +21,7 @@ use Rattle.task.specs.declared.ParameterError.the-variants.{NoParameter, NotWri
 use Rattle.task.specs.Task.{tasks, taskOf}
 use Rattle.task.specs.Verdict.{errorNumber, countsAct}
 use Rattle.request.specs.Request.{valueFits}
-use Rattle.slave.specs.Perform.{replyArea, errorArea, carried, readReply, elementCount, doneOf}
+use Rattle.slave.specs.Perform.{replyArea, errorArea, carried, elementCount, doneOf}
 use Rattle.reply.specs.Reply.{inRow, isDoubleId, misfit}
 use Rattle.claims_master.proofs.ReplyLaws.{Suits}
 use Rattle.claims_master.proofs.CarriedLaws.{value-fits}
