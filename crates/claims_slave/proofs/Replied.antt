@@ -34,7 +34,7 @@ use Rattle.slave.specs.Slave.{written, firstWord, taskDone, replyOf, controlTak
 use Rattle.task.specs.declared.Act.{Act}
 use Rattle.slave.specs.Perform.{idle, doneOf, performOf}
 use Rattle.slave.proofs.PerformLaws.{task-granted, granted-place}
-use Rattle.claims_slave.specs.Outcomes.{SoundReply, SameReply, areaIn, taskIn, GrantedChange, placeIn, valueIn}
+use Rattle.claims_slave.specs.Outcomes.{SoundReply, SameReply, areaOf, taskIn, GrantedChange, placeIn, valueIn}
 use Rattle.claims_slave.proofs.Kept.{reply-long, found-is}
 use Rattle.claims_slave.proofs.WhenAnswered.{replied-call, mirrored-call, replied-exactly, mirrored-exactly}
 
@@ -86,7 +86,7 @@ module _ (s : Setup) (t vs rx : List ℕ) (j : ℕ) (g : GrantedChange s t rx j)
   unfolding taskDone performOf
   change-done =
       let k = taskIn s rx in
-      let a = areaIn s rx in
+      let a = areaOf s rx in
       let e = entryAt t j in
       let busy : idle (k .act) ≡ false = ap idle (g .changes) in
       rw (ne-eqb (s .pkw) 0 (g .has-area), busy, g .found, task-granted (s .pkw) k a e vs (firstPlace t j) (g .granted))
@@ -100,8 +100,8 @@ module _ (s : Setup) (t vs : List ℕ) (control status : Words) (rx out : List �
       let h = replied-exactly s t vs control status rx out .0 e in
       let o = passed-opened s t vs (length out) (h .0) in (
         rw (replied-call s t vs control status rx out (h .0) (h .1)) (change-done s t vs rx j g),
-        granted-place (s .pkw) (taskIn s rx) (areaIn s rx) (entryAt t j) vs (firstPlace t j) (g .granted)
-            (omega (arith, o .count, places-fit t (length t / 12) j (found-is t (areaIn s rx) j (g .found)))),
+        granted-place (s .pkw) (taskIn s rx) (areaOf s rx) (entryAt t j) vs (firstPlace t j) (g .granted)
+            (omega (arith, o .count, places-fit t (length t / 12) j (found-is t (areaOf s rx) j (g .found)))),
       )
 
   pub control-replaced : callOf s t vs control status rx out .served .answer ≡ Replied → (s .pzd ≡ 0 → ⊥) → firstWord s rx / 1024 % 2 ≡ 1
