@@ -26,7 +26,7 @@ use Rattle.task.specs.declared.Verdict.the-variants.{Granted, Denied}
 use Rattle.task.specs.declared.Task.{Task}
 use Rattle.task.specs.Task.{taskOf}
 use Rattle.task.specs.Page.{fullNumber, named}
-use Rattle.task.specs.Verdict.{countsAct, noRoom, verdictOf, elementOf}
+use Rattle.task.specs.Verdict.{countsAct, lacksRoom, verdictOf, elementOf}
 use Rattle.task.proofs.VerdictLaws.{granted-clear}
 use Rattle.request.specs.Request.{valueFits}
 use Rattle.slave.specs.Perform.{carried, verdictFor, performOn, performFound, foundOf, idle, performTask}
@@ -41,7 +41,7 @@ granted-room : (act : Act) (width : Width) (array : Bool) (elements : ℕ) (doub
 granted-room act width array elements double writable inside index n e =
     none double (countsAct act) (granted-clear act width array elements double writable inside index n e .room-there)
   where
-    none : (d k : Bool) → noRoom d n k ≡ false → k ≡ false → d ≡ true → n ≡ 3 → ⊥
+    none : (d k : Bool) → lacksRoom d n k ≡ false → k ≡ false → d ≡ true → n ≡ 3 → ⊥
     none true false p f g q = eqb-false n 3 (un-and (eqb n 3) p) q
       where
         un-and : (b : Bool) → (b && true) ≡ false → b ≡ false

@@ -23,7 +23,7 @@ use Rattle.task.specs.declared.ParameterError.{ParameterError}
 use Rattle.task.specs.declared.ParameterError.the-variants.{NoParameter}
 use Rattle.task.specs.declared.Verdict.the-variants.{Granted, Denied}
 use Rattle.task.specs.Page.{baseOf, fullNumber}
-use Rattle.task.specs.Verdict.{changesAct, noElement, verdictOf, elementOf}
+use Rattle.task.specs.Verdict.{changesAct, lacksElement, verdictOf, elementOf}
 use Rattle.task.proofs.VerdictLaws.{granted-clear}
 use Rattle.slave.specs.Perform.{readReply, carried, errorArea, emptyArea, doneOf, verdictFor, performOn, performFound, performTask, foundOf, idle}
 
@@ -33,7 +33,7 @@ read-reply-le reply false h = omega arith
 
 -- ---- a granted task means an element that is there
 
-element-there : (array : Bool) (elements index : ℕ) → noElement array elements index ≡ false → elementOf array elements index < cond (eqb elements 0) 1 elements
+element-there : (array : Bool) (elements index : ℕ) → lacksElement array elements index ≡ false → elementOf array elements index < cond (eqb elements 0) 1 elements
 unfolding elementOf
 element-there array elements index h = go array (eqb elements 0) refl h
   where

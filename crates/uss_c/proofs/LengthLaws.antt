@@ -32,7 +32,7 @@ use Rattle.broadcast.specs.Broadcast.{isVoid, controlAfter}
 use Rattle.slave.specs.declared.Served.{Served}
 use Rattle.slave.specs.declared.Answer.the-variants.{Mirrored, Taken}
 use Rattle.slave.specs.declared.Refusal.the-variants.{OtherNode, OtherLength, VoidBroadcast}
-use Rattle.slave.specs.Slave.{Outcome, Sent, refusedServed, refusedOf, written, firstWord, commandAt, taskDone, replyOf, normalOutcome, normalCase, mirrorCase, broadcastCase, executeDecoded, callOpened, callOf}
+use Rattle.slave.specs.Slave.{Outcome, MirrorSent, refusedServed, refusedOf, written, firstWord, commandAt, taskDone, replyOf, normalOutcome, normalCase, mirrorCase, broadcastCase, executeDecoded, callOpened, callOf}
 use Rattle.slave.proofs.CaseLaws.{executed}
 use Rattle.request.specs.declared.Request.{Request}
 use Rattle.request.specs.declared.Request.the-variants.{Task, Mirror as MirrorOf, Broadcast as BroadcastOf}
@@ -62,7 +62,7 @@ normal-most node n s t vs control status rx out c =
 mirror-most : (node : ℕ) (s : Setup) (control : Words) (rx out : List ℕ) → length rx ≤ 256 → mirrorCase node s control rx out .served .length ≤ 256
 unfolding mirrorCase
 mirror-most node s control rx out h =
-    first-all (λ (o : Sent). o .served .length ≤ 256)
+    first-all (λ (o : MirrorSent). o .served .length ≤ 256)
     ((not (eqb node (s .node)), record { served = refusedServed OtherNode control; reply = out }) ∷ [])
     (record { served = record { answer = Mirrored; length = length rx; control = control }; reply = written out rx })
     (lit≤ tt, tt) h
