@@ -1,11 +1,13 @@
 -- A verdict is the answer of the first row that applies; a task is granted where no row does. Assumes nothing.
-use mathlib.Core.Path.{_≡_, refl, ap}
+use mathlib.Core.Path.{_≡_, refl, ap, _∙_}
+use mathlib.Core.Logic.{_⊎_, inl, inr}
+use mathlib.Core.List.{List, [], _∷_}
 use mathlib.Core.Bool.{Bool, true, false, not, _&&_}
 use Prim.Native.Nat.{ℕ}
-use Rattle.rows.proofs.RowsLaws.{Chosen, chosen-first, row-passed}
+use Rattle.rows.specs.Rows.{firstOf}
+use Rattle.rows.proofs.RowsLaws.{Chosen, chosen-first, EachRow, row-passed}
 use Rattle.task.specs.declared.Act.{Act}
 use Rattle.task.specs.declared.Width.{Width}
-use Rattle.task.specs.declared.ParameterError.the-variants.{NoTask, NoArray, NoElement, OtherWidth, NoRoom, NotWritable, OutsideLimits}
 use Rattle.task.specs.declared.Verdict.{Verdict}
 use Rattle.task.specs.declared.Verdict.the-variants.{Granted, Denied}
 use Rattle.task.specs.Verdict.{refusesAct, changesAct, countsAct, lacksArray, lacksElement, differsWidth, lacksRoom, verdictRows, verdictOf}
@@ -13,6 +15,19 @@ use Rattle.task.specs.Verdict.{refusesAct, changesAct, countsAct, lacksA
 isGranted : Verdict → Bool
 isGranted Granted = true
 isGranted (Denied error) = false
+
+-- b is the test of one of the rows
+Among : Bool → List (Bool × Verdict) → Type 0
+Among b [] = ⊥
+Among b (row ∷ rows) = (b ≡ row .0) ⊎ Among b rows
+
+-- where every row denies and the task is granted, no test holds
+none-holds : (rows : List (Bool × Verdict)) → EachRow (λ (v : Verdict). isGranted v ≡ false) rows → isGranted (firstOf rows Granted) ≡ true → (b : Bool) → Among b rows → b ≡ false
+unfolding Among
+none-holds [] d e b m = absurd m
+none-holds (row ∷ rows) d e b (inl h) = h ∙ row-passed isGranted (row .0) (row .1) (firstOf rows Granted) (d .0) e .0
+none-holds (row ∷ rows) d e b (inr m) =
+    none-holds rows (d .1) (row-passed isGranted (row .0) (row .1) (firstOf rows Granted) (d .0) e .1) b m
 
 -- none of the rows applies
 pub record NoError (act : Act) (width : Width) (array : Bool) (elements : ℕ) (double writable inside : Bool) (index n : ℕ) : Type 0 where
@@ -30,21 +45,15 @@ module _ (act : Act) (width : Width) (array : Bool) (elements : ℕ) (double wri
   judged r h = chosen-first (verdictRows act width array elements double writable inside index n) Granted r h
 
   pub granted-clear : verdictOf act width array elements double writable inside index n ≡ Granted → NoError act width array elements double writable inside index n
-  unfolding verdictOf isGranted
+  unfolding verdictOf isGranted Among
   granted-clear e =
-      let p1 = row-passed isGranted (refusesAct act) (Denied NoTask) _ refl (ap isGranted e) in
-      let p2 = row-passed isGranted (lacksArray array elements index) (Denied NoArray) _ refl (p1 .1) in
-      let p3 = row-passed isGranted (lacksElement array elements index) (Denied NoElement) _ refl (p2 .1) in
-      let p4 = row-passed isGranted (changesAct act && differsWidth width double) (Denied OtherWidth) _ refl (p3 .1) in
-      let p5 = row-passed isGranted (lacksRoom double n (countsAct act)) (Denied NoRoom) _ refl (p4 .1) in
-      let p6 = row-passed isGranted (changesAct act && not writable) (Denied NotWritable) _ refl (p5 .1) in
-      let p7 = row-passed isGranted (changesAct act && not inside) (Denied OutsideLimits) _ refl (p6 .1) in
+      let none = none-holds (verdictRows act width array elements double writable inside index n) (refl, (refl, (refl, (refl, (refl, (refl, (refl, tt))))))) (ap isGranted e) in
       record {
-        act-known = p1 .0;
-        array-there = p2 .0;
-        element-there = p3 .0;
-        width-same = p4 .0;
-        room-there = p5 .0;
-        write-allowed = p6 .0;
-        value-inside = p7 .0;
+        act-known = none _ (search (inl, inr, refl) depth 9 fits 2000);
+        array-there = none _ (search (inl, inr, refl) depth 9 fits 2000);
+        element-there = none _ (search (inl, inr, refl) depth 9 fits 2000);
+        width-same = none _ (search (inl, inr, refl) depth 9 fits 2000);
+        room-there = none _ (search (inl, inr, refl) depth 9 fits 2000);
+        write-allowed = none _ (search (inl, inr, refl) depth 9 fits 2000);
+        value-inside = none _ (search (inl, inr, refl) depth 9 fits 2000);
       }
