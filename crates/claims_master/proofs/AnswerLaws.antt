@@ -1,12 +1,11 @@
 -- What a slave answers to a task that can be asked: a reply ID of the task's row or 7, and a value that fits. Assumes nothing.
-use mathlib.Core.Path.{_≡_, refl, sym, ap, _∙_}
+use mathlib.Core.Path.{_≡_, refl, sym, _∙_}
 use mathlib.Core.Bool.{Bool, true, false, _&&_, false≢true}
 use mathlib.Core.List.{List}
 use Prim.Native.Nat.{ℕ, _+_, _%_, _≤_, _<_}
 use borrow.Author.Tests.{eqb-false, leb-true}
 use lib.Dec.{eqb}
 use lib.ListN.{getD}
-use Rattle.rows.proofs.RowsLaws.{row-passed}
 use Rattle.setup.specs.declared.Setup.{Setup}
 use Rattle.entry.specs.Fields.{countOf}
 use Rattle.entry.specs.Limits.{fitsIn, isWithin}
@@ -21,13 +20,14 @@ use Rattle.net.specs.declared.Area.{Area}
 use Rattle.task.specs.declared.Act.{Act}
 use Rattle.task.specs.declared.Act.the-variants.{Nothing, Read, Change, Count, Refuse}
 use Rattle.task.specs.declared.Width.{Width}
-use Rattle.task.specs.declared.ParameterError.the-variants.{NoParameter, NoElement, NoArray, OtherWidth, NoRoom, NoTask}
+use Rattle.task.specs.declared.ParameterError.the-variants.{NoParameter}
 use Rattle.task.specs.declared.Verdict.{Verdict}
 use Rattle.task.specs.declared.Verdict.the-variants.{Granted, Denied}
 use Rattle.task.specs.declared.Task.{Task}
 use Rattle.task.specs.Task.{taskOf}
 use Rattle.task.specs.Page.{fullNumber, named}
-use Rattle.task.specs.Verdict.{refusesAct, changesAct, countsAct, otherWidth, noArray, noElement, noRoom, verdictOf, elementOf}
+use Rattle.task.specs.Verdict.{countsAct, lacksRoom, verdictOf, elementOf}
+use Rattle.task.proofs.VerdictLaws.{granted-clear}
 use Rattle.request.specs.Request.{valueFits}
 use Rattle.slave.specs.Perform.{carried, verdictFor, performOn, performFound, foundOf, idle, performTask}
 use Rattle.slave.proofs.PerformLaws.{granted-element, task-denied, task-granted}
@@ -35,23 +35,13 @@ use Rattle.claims_master.proofs.SuitLaws.{Wide, Answers, error-answers,
 
 -- ---- a task on a record of a table that passed
 
-isGranted : Verdict → Bool
-isGranted Granted = true
-isGranted (Denied error) = false
-
 -- a granted task has room for its answer
 granted-room : (act : Act) (width : Width) (array : Bool) (elements : ℕ) (double writable inside : Bool) (index n : ℕ)
     → verdictOf act width array elements double writable inside index n ≡ Granted → countsAct act ≡ false → double ≡ true → n ≡ 3 → ⊥
-unfolding verdictOf isGranted
 granted-room act width array elements double writable inside index n e =
-    let p1 = row-passed isGranted (refusesAct act) (Denied NoTask) _ refl (ap isGranted e) in
-    let p2 = row-passed isGranted (noArray array elements index) (Denied NoArray) _ refl (p1 .1) in
-    let p3 = row-passed isGranted (noElement array elements index) (Denied NoElement) _ refl (p2 .1) in
-    let p4 = row-passed isGranted (changesAct act && otherWidth width double) (Denied OtherWidth) _ refl (p3 .1) in
-    let p5 = row-passed isGranted (noRoom double n (countsAct act)) (Denied NoRoom) _ refl (p4 .1) in
-    none double (countsAct act) (p5 .0)
+    none double (countsAct act) (granted-clear act width array elements double writable inside index n e .room-there)
   where
-    none : (d k : Bool) → noRoom d n k ≡ false → k ≡ false → d ≡ true → n ≡ 3 → ⊥
+    none : (d k : Bool) → lacksRoom d n k ≡ false → k ≡ false → d ≡ true → n ≡ 3 → ⊥
     none true false p f g q = eqb-false n 3 (un-and (eqb n 3) p) q
       where
         un-and : (b : Bool) → (b && true) ≡ false → b ≡ false

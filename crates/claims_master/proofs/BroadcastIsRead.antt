@@ -18,6 +18,7 @@ use Rattle.setup.proofs.SetupLaws.{Configured, ok-configured}
 use Rattle.frame.specs.Address.{decodedOf, kindOf}
 use Rattle.frame.specs.declared.Address.{Address}
 use Rattle.frame.specs.declared.Decoded.the-variants.{Broadcast as BroadcastTelegram}
+use Rattle.frame.proofs.AddressLaws.{to-all}
 use Rattle.net.specs.declared.Area.{Area}
 use Rattle.net.specs.Net.{netOf}
 use Rattle.net.specs.Read.{processAt, Worded, firstWords}
@@ -35,7 +36,7 @@ use Rattle.slave.specs.Slave.{firstWord, commandAt}
 use Rattle.slave.proofs.CaseLaws.{executed, broadcast-taken}
 use Rattle.master.specs.Build.{commandArea, telegramFor}
 use Rattle.claims_master.specs.Claims.{BroadcastRead}
-use Rattle.claims_master.proofs.SentLaws.{to-all, sent-decoded, net-count, net-some, net-fits}
+use Rattle.claims_master.proofs.SentLaws.{sent-decoded, net-count, net-some, net-fits}
 use Rattle.claims_master.proofs.CarriedLaws.{area-words}
 
 -- a broadcast that is not void has both areas, and a selector of three bits

@@ -9,6 +9,7 @@ use Rattle.words.specs.declared.Words.{Words}
 use Rattle.frame.specs.Address.{decodedOf, kindOf}
 use Rattle.frame.specs.declared.Address.{Address}
 use Rattle.frame.specs.declared.Decoded.the-variants.{Mirror as MirrorTelegram}
+use Rattle.frame.proofs.AddressLaws.{to-mirror}
 use Rattle.setup.specs.declared.Setup.{Setup}
 use Rattle.setup.specs.SetupRules.{setupOk}
 use Rattle.setup.proofs.SetupLaws.{ok-configured}
@@ -22,7 +23,7 @@ use Rattle.slave.specs.declared.Answer.the-variants.{Mirrored}
 use Rattle.slave.proofs.CaseLaws.{executed}
 use Rattle.master.specs.Build.{telegramFor}
 use Rattle.claims_master.specs.Claims.{MirrorRead}
-use Rattle.claims_master.proofs.SentLaws.{to-mirror, sent-decoded}
+use Rattle.claims_master.proofs.SentLaws.{sent-decoded}
 
 mirror-served : (s : Setup) (t vs : List ℕ) (control status : Words) (rx out : List ℕ)
     → executeDecoded (MirrorTelegram (s .node)) s t vs control status rx out ≡ outcome Mirrored (length rx) control vs (written out rx)

@@ -1,15 +1,14 @@
 -- What a telegram of given net bytes is decoded as, by its address byte. Assumes nothing.
-use mathlib.Core.Path.{_≡_, refl, ap, _∙_}
+use mathlib.Core.Path.{_≡_, ap, _∙_}
 use mathlib.Core.List.{List}
-use Prim.Native.Nat.{ℕ, _+_, _/_, _%_, _≤_}
+use Prim.Native.Nat.{ℕ, _+_, _≤_}
 use native.Mathlib.Omega.{arith}
-use borrow.Author.Tests.{lt-leb, eq-eqb, ne-eqb}
 use lib.ListN.{length}
 use Rattle.words.specs.declared.Words.{Words}
 use Rattle.frame.specs.Address.{addressOf, kindOf, decodedFrom, decodedOf}
 use Rattle.frame.specs.declared.FrameCheck.{FrameCheck}
-use Rattle.frame.specs.declared.Address.the-variants.{ToOne, ToMirror, ToAll}
 use Rattle.frame.specs.declared.Decoded.the-variants.{Normal}
+use Rattle.frame.proofs.AddressLaws.{to-one}
 use Rattle.setup.specs.declared.Setup.{Setup}
 use Rattle.setup.specs.SetupRules.{netBytes}
 use Rattle.setup.proofs.SetupLaws.{Configured, area-few}
@@ -18,30 +17,6 @@ use Rattle.net.specs.Net.{netOf}
 use Rattle.net.specs.Telegram.{telegramOf}
 use Rattle.net.proofs.NetLaws.{length-net}
 use Rattle.net.proofs.SealLaws.{telegram-passes}
-
--- ---- address bytes
-
-pub to-one : (node : ℕ) → node ≤ 31 → addressOf node ≡ ToOne node
-unfolding addressOf
-to-one node h =
-    let five : node / 32 % 2 ≡ 1 → ⊥ = λ e. omega arith in
-    let six : node / 64 % 2 ≡ 1 → ⊥ = λ e. omega arith in
-    let low : node % 32 ≡ node = omega arith in
-    rw (lt-leb 128 node (omega arith), ne-eqb (node / 32 % 2) 1 five, ne-eqb (node / 64 % 2) 1 six, low)
-
-pub to-mirror : (node : ℕ) → node ≤ 31 → addressOf (node + 64) ≡ ToMirror node
-unfolding addressOf
-to-mirror node h =
-    let five : (node + 64) / 32 % 2 ≡ 1 → ⊥ = λ e. omega arith in
-    let six : (node + 64) / 64 % 2 ≡ 1 = omega arith in
-    let low : (node + 64) % 32 ≡ node = omega arith in
-    rw (lt-leb 128 (node + 64) (omega arith), ne-eqb ((node + 64) / 32 % 2) 1 five, eq-eqb ((node + 64) / 64 % 2) 1 six, low)
-
-pub to-all : addressOf 32 ≡ ToAll
-unfolding addressOf
-to-all = refl
-
--- ---- telegrams
 
 -- a telegram that can be sent is decoded by its address byte
 pub sent-decoded : (adr : ℕ) (net : List ℕ) → 1 ≤ length net → length net ≤ 252 → decodedOf (telegramOf adr net) ≡ kindOf (addressOf adr) (length net + 3)

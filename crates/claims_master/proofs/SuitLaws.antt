@@ -9,6 +9,7 @@ use native.Mathlib.Nat.{add-zero}
 use borrow.Author.Tests.{eq-eqb, eqb-false, le-ltb, not-true, ne-eqb}
 use lib.Dec.{eqb, ltb, lit≤}
 use lib.ListN.{getD}
+use Rattle.rows.proofs.BoolLaws.{or-first, or-second}
 use Rattle.rows.proofs.RangeLaws.{between}
 use Rattle.net.specs.declared.Area.{Area}
 use Rattle.task.specs.declared.Act.{Act}
@@ -20,17 +21,10 @@ use Rattle.task.specs.declared.ParameterError.the-variants.{NoParameter, NotWri
 use Rattle.task.specs.Task.{tasks, taskOf}
 use Rattle.task.specs.Verdict.{errorNumber, countsAct}
 use Rattle.request.specs.Request.{valueFits}
-use Rattle.slave.specs.Perform.{replyArea, errorArea, carried, readReply, elementCount, doneOf}
+use Rattle.slave.specs.Perform.{replyArea, errorArea, carried, elementCount, doneOf}
 use Rattle.reply.specs.Reply.{inRow, isDoubleId, misfit}
 use Rattle.claims_master.proofs.ReplyLaws.{Suits}
 use Rattle.claims_master.proofs.CarriedLaws.{value-fits}
-
-or-first : (a b : Bool) → a ≡ true → (a || b) ≡ true
-or-first a b e = rw e
-
-or-second : (a b : Bool) → b ≡ true → (a || b) ≡ true
-or-second true b e = refl
-or-second false b e = e
 
 -- ---- reply IDs and values that suit
 

@@ -36,7 +36,7 @@ use Rattle.broadcast.specs.Broadcast.{isVoid, controlAfter}
 use Rattle.slave.specs.declared.Answer.the-variants.{Mirrored, Taken}
 use Rattle.slave.specs.declared.Refusal.the-variants.{OtherNode, OtherLength, VoidBroadcast}
 use Rattle.slave.specs.declared.Served.{Served}
-use Rattle.slave.specs.Slave.{Outcome, Sent, answerNumber, refusedServed, refusedOf, written, firstWord, commandAt, normalOutcome, normalCase, mirrorCase, broadcastCase, executeDecoded, executeOf, callOpened, callOf}
+use Rattle.slave.specs.Slave.{Outcome, MirrorSent, answerNumber, refusedServed, refusedOf, written, firstWord, commandAt, normalOutcome, normalCase, mirrorCase, broadcastCase, executeDecoded, executeOf, callOpened, callOf}
 use Rattle.slave.proofs.CaseLaws.{executed, called}
 use Rattle.claims_slave.specs.Outcomes.{NotFrame, PastFrame}
 use Rattle.claims_slave.specs.AnswerTable.{broadcastBit, mirrorBit, topBit, answerRows, acceptedNumber}
@@ -120,7 +120,7 @@ module _ (s : Setup) (t vs : List ℕ) (control status : Words) (rx out : List �
       ≡ firstOf ((not (eqb node (s .node)), 16) ∷ []) 1
   unfolding mirrorCase
   mirror-number node =
-      first-read (λ (x : Sent). answerNumber (x .served .answer))
+      first-read (λ (x : MirrorSent). answerNumber (x .served .answer))
       ((not (eqb node (s .node)), record { served = refusedServed OtherNode control; reply = out }) ∷ [])
       (record { served = record { answer = Mirrored; length = length rx; control = control }; reply = written out rx })
 

@@ -3,12 +3,12 @@
 --     mirror-same         a mirror's reply is the received telegram, byte for byte
 --     change-stored       a granted change stores the value that it carries at the place that it means, and nowhere else
 --     control-replaced    with bit 10, the first PZD control words are those received
-use Prim.Native.Nat.{ℕ, _+_, _/_, _%_, _≤_, _<_}
+use Prim.Native.Nat.{ℕ, _+_, _/_, _%_, _<_}
 use mathlib.Core.Path.{_≡_, refl, sym, ap, _∙_}
 use mathlib.Core.Bool.{false}
 use mathlib.Core.List.{List}
 use native.Mathlib.Omega.{arith}
-use borrow.Author.Tests.{lt-leb, ne-eqb}
+use borrow.Author.Tests.{ne-eqb}
 use lib.ListN.{length, take, drop, set}
 use lib.Seq.{take-at, drop-at}
 use Rattle.words.specs.declared.Words.{Words}
@@ -17,11 +17,11 @@ use Rattle.setup.proofs.SetupLaws.{ok-configured, area-few}
 use Rattle.table.specs.Records.{entryAt, entries, firstPlace}
 use Rattle.table.proofs.RecordsLaws.{places-fit}
 use Rattle.frame.specs.Frame.{frameOf}
-use Rattle.frame.specs.Address.{addressOf, kindOf, decodedOf}
+use Rattle.frame.specs.Address.{kindOf, decodedOf}
 use Rattle.frame.specs.declared.Address.{Address}
-use Rattle.frame.specs.declared.Address.the-variants.{ToOne}
 use Rattle.frame.specs.declared.FrameCheck.the-variants.{Sound}
 use Rattle.frame.specs.declared.Decoded.the-variants.{Normal}
+use Rattle.frame.proofs.AddressLaws.{to-one}
 use Rattle.frame.proofs.DecodedLaws.{telegram-framed, normal-bounds}
 use Rattle.opening.proofs.AnswersLaws.{passed-opened}
 use Rattle.net.specs.Net.{netOf}
@@ -34,19 +34,11 @@ use Rattle.slave.specs.Slave.{written, firstWord, taskDone, replyOf, controlTak
 use Rattle.task.specs.declared.Act.{Act}
 use Rattle.slave.specs.Perform.{idle, doneOf, performOf}
 use Rattle.slave.proofs.PerformLaws.{task-granted, granted-place}
-use Rattle.claims_slave.specs.Outcomes.{SoundReply, SameReply, areaIn, taskIn, GrantedChange, placeIn, valueIn}
+use Rattle.claims_slave.specs.Outcomes.{SoundReply, SameReply, areaOf, taskIn, GrantedChange, placeIn, valueIn}
 use Rattle.claims_slave.proofs.Kept.{reply-long, found-is}
 use Rattle.claims_slave.proofs.WhenAnswered.{replied-call, mirrored-call, replied-exactly, mirrored-exactly}
 
 -- ---- replies
-
-own-address : (node : ℕ) → node ≤ 31 → addressOf node ≡ ToOne node
-unfolding addressOf
-own-address node h =
-    let high : node / 32 % 2 ≡ 0 = omega arith in
-    let higher : node / 64 % 2 ≡ 0 = omega arith in
-    let low : node % 32 ≡ node = omega arith in
-    rw (lt-leb 128 node (omega arith), high, higher, low)
 
 -- a reply's first bytes are the telegram, the rest of the buffer is as it was
 sent-is : (out telegram : List ℕ) → take (length telegram) (written out telegram) ≡ telegram
@@ -74,7 +66,7 @@ module _ (s : Setup) (t vs : List ℕ) (control status : Words) (rx out : List �
       rw (replied-call s t vs control status rx out (h .0) (h .1))
       (record {
         passes = ap frameOf sent ∙ frame;
-        reads = ap decodedOf sent ∙ rw frame (ap (λ (x : Address). kindOf x (3 + netBytes s)) (own-address (s .node) (c .nodes)));
+        reads = ap decodedOf sent ∙ rw frame (ap (λ (x : Address). kindOf x (3 + netBytes s)) (to-one (s .node) (c .nodes)));
         reported = ap length (sym sent);
         as-long = rl ∙ omega (arith, b .1, f .counted .long);
         rest = rest-is out (replyOf s a status);
@@ -94,7 +86,7 @@ module _ (s : Setup) (t vs rx : List ℕ) (j : ℕ) (g : GrantedChange s t rx j)
   unfolding taskDone performOf
   change-done =
       let k = taskIn s rx in
-      let a = areaIn s rx in
+      let a = areaOf s rx in
       let e = entryAt t j in
       let busy : idle (k .act) ≡ false = ap idle (g .changes) in
       rw (ne-eqb (s .pkw) 0 (g .has-area), busy, g .found, task-granted (s .pkw) k a e vs (firstPlace t j) (g .granted))
@@ -108,8 +100,8 @@ module _ (s : Setup) (t vs : List ℕ) (control status : Words) (rx out : List �
       let h = replied-exactly s t vs control status rx out .0 e in
       let o = passed-opened s t vs (length out) (h .0) in (
         rw (replied-call s t vs control status rx out (h .0) (h .1)) (change-done s t vs rx j g),
-        granted-place (s .pkw) (taskIn s rx) (areaIn s rx) (entryAt t j) vs (firstPlace t j) (g .granted)
-            (omega (arith, o .count, places-fit t (length t / 12) j (found-is t (areaIn s rx) j (g .found)))),
+        granted-place (s .pkw) (taskIn s rx) (areaOf s rx) (entryAt t j) vs (firstPlace t j) (g .granted)
+            (omega (arith, o .count, places-fit t (length t / 12) j (found-is t (areaOf s rx) j (g .found)))),
       )
 
   pub control-replaced : callOf s t vs control status rx out .served .answer ≡ Replied → (s .pzd ≡ 0 → ⊥) → firstWord s rx / 1024 % 2 ≡ 1

@@ -87,20 +87,20 @@ PastFrame o = NotFrame (answerNumber (o .served .answer))
 
 -- ---- a change that is made
 
-abbrev pub areaIn : Setup → List ℕ → Area
-areaIn s rx = areaAt rx (s .pkw)
+abbrev pub areaOf : Setup → List ℕ → Area
+areaOf s rx = areaAt rx (s .pkw)
 
 abbrev pub taskIn : Setup → List ℕ → Task
-taskIn s rx = taskOf (areaIn s rx .pke / 4096)
+taskIn s rx = taskOf (areaOf s rx .pke / 4096)
 
 pub record GrantedChange (s : Setup) (t rx : List ℕ) (j : ℕ) : Type 0 where
   pub has-area : s .pkw ≡ 0 → ⊥
   pub changes : taskIn s rx .act ≡ Change
-  pub found : foundOf t (areaIn s rx) ≡ At j
-  pub granted : verdictFor (s .pkw) (taskIn s rx) (areaIn s rx) (entryAt t j) ≡ Granted
+  pub found : foundOf t (areaOf s rx) ≡ At j
+  pub granted : verdictFor (s .pkw) (taskIn s rx) (areaOf s rx) (entryAt t j) ≡ Granted
 
 abbrev pub placeIn : Setup → List ℕ → List ℕ → ℕ → ℕ
-placeIn s t rx j = firstPlace t j + elementOf (taskIn s rx .array) (entryAt t j .elements) (areaIn s rx .ind % 256)
+placeIn s t rx j = firstPlace t j + elementOf (taskIn s rx .array) (entryAt t j .elements) (areaOf s rx .ind % 256)
 
 abbrev pub valueIn : Setup → List ℕ → ℕ
-valueIn s rx = carried (taskIn s rx .width) (areaIn s rx .value)
+valueIn s rx = carried (taskIn s rx .width) (areaOf s rx .value)

@@ -1,7 +1,7 @@
 -- Sequences of slave calls with one set-up and table: each starts from what the last one left, and no one else writes.
 --     callAt s t q e       the call of an event e in a state q
 --     stepOf s t q e       the state that it leaves
---     seenOf s t q e       what is seen of it
+--     seenOf o             what is seen of an outcome o
 --     runOf s t q es       the calls of the events es, one after another: what is seen, and the last state
 --     strike s t q es      the events without those that are refused when their turn comes
 --     kept seen            what is seen, without the refused calls

@@ -1,12 +1,13 @@
 -- How long a listing is: exactly, and at most 64 bytes. Assumes nothing.
 use mathlib.Core.Path.{_≡_}
-use mathlib.Core.List.{List, [], _∷_, _++_}
-use Prim.Native.Nat.{ℕ, zero, suc, _+_, _%_, _≤_, _<_}
+use mathlib.Core.List.{List, _++_}
+use Prim.Native.Nat.{ℕ, _+_, _%_, _≤_, _<_}
 use native.Mathlib.Omega.{arith}
 use lib.Dec.{lit<, lit≤}
 use lib.ListN.{length, take, drop, length-append, length-take}
 use Rattle.rows.proofs.RowsLaws.{first-all}
 use Rattle.words.specs.Words.{byteAt, Bytes}
+use Rattle.words.proofs.WordsLaws.{bytes-take}
 use Rattle.text.specs.Digits.{ascii, digits}
 use Rattle.store.specs.Placed.{joined}
 use Rattle.text.proofs.DigitsLaws.{length-digits}
@@ -99,12 +100,6 @@ pub listed-lent : (received out : List ℕ) {n : ℕ} {after : List ℕ} → n �
 unfolding listedOf
 listed-lent received out e f =
     rw (e, f, put-length out 0 (listing (take 300 received))) (listed-within received out)
-
-bytes-take : (n : ℕ) (t : List ℕ) → Bytes t → Bytes (take n t)
-bytes-take zero t b i = lit< tt
-bytes-take (suc n) [] b i = b i
-bytes-take (suc n) (x ∷ t) b zero = b 0
-bytes-take (suc n) (x ∷ t) b (suc i) = bytes-take n t (λ j. b (suc j)) i
 
 -- a buffer of 64 bytes or more takes the whole listing, and behind it keeps its bytes
 pub listed-whole : (received out : List ℕ) → Bytes received → 64 ≤ length out → let text = listing (take 300 received) in listedOf received out ≡ record { place = length text; bytes = text ++ drop (length text) out }

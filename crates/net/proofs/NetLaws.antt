@@ -8,9 +8,10 @@ use lib.Bits.{bitXor}
 use lib.ListN.{length, take, drop, length-append}
 use lib.Seq.{sets, length-sets, length-take-le, take-all}
 use Rattle.frame.specs.Bcc.{xorAll}
+use Rattle.frame.proofs.XorLaws.{xor-append}
 use Rattle.words.specs.declared.Words.{Words}
 use Rattle.net.proofs.SealLaws.{length-telegram}
-use Rattle.net.proofs.MixLaws.{xor-append, xor-bytes}
+use Rattle.net.proofs.MixLaws.{xor-bytes}
 use Rattle.store.proofs.StoreLaws.{sets-append, sets-there, sets-beyond}
 use Rattle.net.specs.declared.Area.{Area}
 use Rattle.net.specs.Telegram.{telegramOf, sealedOf, sealedLength}

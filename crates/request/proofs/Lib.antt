@@ -1,3 +1,2 @@
--- Laws of tests in a row, and of what can be asked.
-mod AllLaws
+-- Laws of what can be asked.
 pub mod RequestLaws

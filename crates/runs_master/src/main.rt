@@ -169,6 +169,7 @@ fn main() {
     run_word_changes();
     run_double_changes();
     run_failed();
+    run_no_right();
     build_refused();
     build_other_tasks();
     run_rest();
@@ -180,6 +181,7 @@ fn run_rest() {
     read_refused();
     read_strange();
     read_other();
+    read_other_bits();
     read_other_rows();
 }
 
@@ -308,7 +310,7 @@ fn run_double_changes() {
     );
 }
 
-// Reply IDs 7 and 8: error numbers in four and three words, no right, a value after 8, 8 to task 0.
+// Reply ID 7: error numbers in four and three words.
 fn run_failed() {
     run_read(
         four(),
@@ -325,6 +327,10 @@ fn run_failed() {
         ask(9, 1082, 0, 0),
         b"\x02\x0e\x03\x74\x3a\x00\x00\x00\x00\xff\xff\x03\x31\x20\x00\x53",
     );
+}
+
+// Reply ID 8, no right, in four and three words; a value after 8; an error number of two words; 8 to task 0.
+fn run_no_right() {
     run_read(
         four(),
         ask(2, 1082, 0, 0),
@@ -489,7 +495,7 @@ fn read_strange() {
     run_read(none(), ask(0, 0, 0, 0), b"\x02\x06\x03\x03\x31\x20\x00\x15");
 }
 
-// Readings 33: another row, a double in three words, base, page, index, bit 11, bits 11-8 of IND, PWE1.
+// Readings 33: another row, a double in three words, base, page, index.
 fn read_other() {
     run_read(
         four(),
@@ -516,6 +522,10 @@ fn read_other() {
         ask(6, 1082, 2, 0),
         b"\x02\x0e\x03\x44\x3a\x00\x01\x00\x00\x00\x01\x03\x31\x20\x00\x63",
     );
+}
+
+// Readings 33: bit 11 of PKE, bits 11-8 of IND, PWE1.
+fn read_other_bits() {
     run_read(
         four(),
         ask(1, 1082, 0, 0),

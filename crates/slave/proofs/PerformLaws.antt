@@ -1,5 +1,5 @@
 -- Laws of a parameter task. Assumes nothing.
-use mathlib.Core.Path.{_≡_, refl, ap}
+use mathlib.Core.Path.{_≡_, refl}
 use mathlib.Core.Bool.{Bool, true, false, not, _&&_, _||_, cond}
 use mathlib.Core.List.{List}
 use Prim.Native.Nat.{ℕ, _+_, _*_, _/_, _%_, _≤_, _<_}
@@ -7,7 +7,6 @@ use native.Mathlib.Omega.{arith}
 use borrow.Author.Tests.{eqb-false, leb-false, lt-ltb, le-ltb, not-false}
 use lib.Dec.{eqb, leb, lit<}
 use lib.ListN.{length}
-use Rattle.rows.proofs.RowsLaws.{row-passed}
 use Rattle.entry.specs.declared.Entry.{Entry}
 use Rattle.entry.specs.Fields.{countOf}
 use Rattle.entry.specs.Limits.{isWithin}
@@ -21,11 +20,11 @@ use Rattle.task.specs.declared.Act.the-variants.{Nothing as Idle, Read, Change,
 use Rattle.task.specs.declared.Width.{Width}
 use Rattle.task.specs.declared.Task.{Task}
 use Rattle.task.specs.declared.ParameterError.{ParameterError}
-use Rattle.task.specs.declared.ParameterError.the-variants.{NoTask, NoArray, NoElement, NoParameter, OtherWidth, NoRoom, NotWritable, OutsideLimits}
-use Rattle.task.specs.declared.Verdict.{Verdict}
+use Rattle.task.specs.declared.ParameterError.the-variants.{NoParameter}
 use Rattle.task.specs.declared.Verdict.the-variants.{Granted, Denied}
 use Rattle.task.specs.Page.{baseOf, fullNumber}
-use Rattle.task.specs.Verdict.{refusesAct, changesAct, noArray, noElement, otherWidth, noRoom, verdictOf, elementOf}
+use Rattle.task.specs.Verdict.{changesAct, lacksElement, verdictOf, elementOf}
+use Rattle.task.proofs.VerdictLaws.{granted-clear}
 use Rattle.slave.specs.Perform.{readReply, carried, errorArea, emptyArea, doneOf, verdictFor, performOn, performFound, performTask, foundOf, idle}
 
 pub read-reply-le : (reply : ℕ) (double : Bool) → reply ≤ 14 → readReply reply double ≤ 15
@@ -34,11 +33,7 @@ read-reply-le reply false h = omega arith
 
 -- ---- a granted task means an element that is there
 
-isGranted : Verdict → Bool
-isGranted Granted = true
-isGranted (Denied error) = false
-
-element-there : (array : Bool) (elements index : ℕ) → noElement array elements index ≡ false → elementOf array elements index < cond (eqb elements 0) 1 elements
+element-there : (array : Bool) (elements index : ℕ) → lacksElement array elements index ≡ false → elementOf array elements index < cond (eqb elements 0) 1 elements
 unfolding elementOf
 element-there array elements index h = go array (eqb elements 0) refl h
   where
@@ -50,25 +45,14 @@ element-there array elements index h = go array (eqb elements 0) refl h
 
 pub granted-element : (act : Act) (width : Width) (array : Bool) (elements : ℕ) (double writable inside : Bool) (index n : ℕ)
     → verdictOf act width array elements double writable inside index n ≡ Granted → elementOf array elements index < cond (eqb elements 0) 1 elements
-unfolding verdictOf isGranted
 granted-element act width array elements double writable inside index n e =
-    let p1 = row-passed isGranted (refusesAct act) (Denied NoTask) _ refl (ap isGranted e) in
-    let p2 = row-passed isGranted (noArray array elements index) (Denied NoArray) _ refl (p1 .1) in
-    let p3 = row-passed isGranted (noElement array elements index) (Denied NoElement) _ refl (p2 .1) in
-    element-there array elements index (p3 .0)
+    element-there array elements index (granted-clear act width array elements double writable inside index n e .element-there)
 
 -- a granted change is within the limits
 pub granted-inside : (width : Width) (array : Bool) (elements : ℕ) (double writable inside : Bool) (index n : ℕ)
     → verdictOf Change width array elements double writable inside index n ≡ Granted → inside ≡ true
-unfolding verdictOf isGranted
 granted-inside width array elements double writable inside index n e =
-    let p1 = row-passed isGranted (noArray array elements index) (Denied NoArray) _ refl (ap isGranted e) in
-    let p2 = row-passed isGranted (noElement array elements index) (Denied NoElement) _ refl (p1 .1) in
-    let p3 = row-passed isGranted (otherWidth width double) (Denied OtherWidth) _ refl (p2 .1) in
-    let p4 = row-passed isGranted (noRoom double n false) (Denied NoRoom) _ refl (p3 .1) in
-    let p5 = row-passed isGranted (not writable) (Denied NotWritable) _ refl (p4 .1) in
-    let p6 = row-passed isGranted (not inside) (Denied OutsideLimits) _ refl (p5 .1) in
-    not-false inside (p6 .0)
+    not-false inside (granted-clear Change width array elements double writable inside index n e .value-inside)
 
 -- limits are asked of changes alone
 pub verdict-inside : (act : Act) (width : Width) (array : Bool) (elements : ℕ) (double writable inside : Bool) (index n : ℕ)

@@ -109,11 +109,11 @@ normalCase node n s t vs control status rx out =
 
 -- ---- mirror: any net length; the reply is the telegram; nothing else changes
 
-pub record Sent : Type 0 where
+pub record MirrorSent : Type 0 where
   pub served : Served
   pub reply : List ℕ
 
-unfoldable pub mirrorCase : ℕ → Setup → Words → List ℕ → List ℕ → Sent
+unfoldable pub mirrorCase : ℕ → Setup → Words → List ℕ → List ℕ → MirrorSent
 mirrorCase node s control rx out =
     firstOf ((not (eqb node (s .node)), record { served = refusedServed OtherNode control; reply = out }) ∷ [])
     (record { served = record { answer = Mirrored; length = length rx; control = control }; reply = written out rx })

@@ -93,7 +93,7 @@ fn store(values: &mut [u32], place: usize, value: u32)
 }
 
 // The reply ID of a read: the next one for a double.
-fn read_id(reply: u8, double: bool) -> u8
+fn pick_reply_id(reply: u8, double: bool) -> u8
     requires { ⌜ reply ≤ 14 ⌝ }
     ensures { λ r. ⌜ r ≡ readReply reply double ⌝ }
 {
@@ -129,7 +129,7 @@ fn run_act(
         },
         Act::Read => {
             let value = values[place];
-            reply_area(area, read_id(reply, double), value)
+            reply_area(area, pick_reply_id(reply, double), value)
         }
         Act::Change => {
             store(values, place, value);

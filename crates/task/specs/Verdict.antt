@@ -48,22 +48,22 @@ countsAct Count = true
 countsAct Refuse = false
 
 -- a word task on a double parameter or the reverse
-abbrev pub otherWidth : Width → Bool → Bool
-otherWidth Either double = false
-otherWidth Word double = double
-otherWidth Double double = not double
+abbrev pub differsWidth : Width → Bool → Bool
+differsWidth Either double = false
+differsWidth Word double = double
+differsWidth Double double = not double
 
 -- not an array and index over 1
-abbrev pub noArray : Bool → ℕ → ℕ → Bool
-noArray array elements index = array && (eqb elements 0 && ltb 1 index)
+abbrev pub lacksArray : Bool → ℕ → ℕ → Bool
+lacksArray array elements index = array && (eqb elements 0 && ltb 1 index)
 
 -- array and index not below its element count
-abbrev pub noElement : Bool → ℕ → ℕ → Bool
-noElement array elements index = array && (not (eqb elements 0) && leb elements index)
+abbrev pub lacksElement : Bool → ℕ → ℕ → Bool
+lacksElement array elements index = array && (not (eqb elements 0) && leb elements index)
 
 -- double parameter in a three-word area, except task 9
-abbrev pub noRoom : Bool → ℕ → Bool → Bool
-noRoom double n count = double && (eqb n 3 && not count)
+abbrev pub lacksRoom : Bool → ℕ → Bool → Bool
+lacksRoom double n count = double && (eqb n 3 && not count)
 
 -- of a task (act, width, array) with an index on a parameter (elements, double, writable) in an area of n words, where
 -- `inside` says whether the value is within the parameter's limits
@@ -72,13 +72,13 @@ verdictRows act width array elements double writable inside index n =
     -- 106 per table
     (refusesAct act, Denied NoTask)
     -- for tasks 6, 7, 8, 11, 12: 4 not an array and index over 1
-    ∷ (noArray array elements index, Denied NoArray)
+    ∷ (lacksArray array elements index, Denied NoArray)
     -- 3 array and index not below its element count
-    ∷ (noElement array elements index, Denied NoElement)
+    ∷ (lacksElement array elements index, Denied NoElement)
     -- for changes: 5 word task on a double parameter or the reverse
-    ∷ (changesAct act && otherWidth width double, Denied OtherWidth)
+    ∷ (changesAct act && differsWidth width double, Denied OtherWidth)
     -- 102 double parameter in a three-word area, except task 9
-    ∷ (noRoom double n (countsAct act), Denied NoRoom)
+    ∷ (lacksRoom double n (countsAct act), Denied NoRoom)
     -- for changes: 1 not writable
     ∷ (changesAct act && not writable, Denied NotWritable)
     -- 2 outside limits

@@ -4,7 +4,7 @@ ghost use mathlib.Core.Path.{_≡_};
 ghost use Rattle.task.specs.Task.{task, taskOf};
 ghost use Rattle.task.specs.declared.Width.the-variants.{Word, Double};
 ghost use Rattle.task.specs.Page.{pageOf, nibbleOf, fullNumber};
-ghost use Rattle.task.specs.Verdict.{refusesAct, changesAct, countsAct, otherWidth, noArray, noElement, noRoom, verdictOf, errorNumber, elementOf};
+ghost use Rattle.task.specs.Verdict.{refusesAct, changesAct, countsAct, differsWidth, lacksArray, lacksElement, lacksRoom, verdictOf, errorNumber, elementOf};
 ghost use mathlib.Core.Bool.{cond};
 
 // What is to be done. Refuse is for the task IDs that error 106 answers.
@@ -169,7 +169,7 @@ fn counts(act: Act) -> bool
 
 // A word task on a double parameter, or the reverse.
 fn differs(width: Width, double: bool) -> bool
-    ensures { λ r. ⌜ r ≡ otherWidth width double ⌝ }
+    ensures { λ r. ⌜ r ≡ differsWidth width double ⌝ }
 {
     match width {
         Width::Either => false,
@@ -179,19 +179,19 @@ fn differs(width: Width, double: bool) -> bool
 }
 
 fn lacks_array(array: bool, elements: u8, index: u8) -> bool
-    ensures { λ r. ⌜ r ≡ noArray array elements index ⌝ }
+    ensures { λ r. ⌜ r ≡ lacksArray array elements index ⌝ }
 {
     array && (elements == 0 && 1 < index)
 }
 
 fn lacks_element(array: bool, elements: u8, index: u8) -> bool
-    ensures { λ r. ⌜ r ≡ noElement array elements index ⌝ }
+    ensures { λ r. ⌜ r ≡ lacksElement array elements index ⌝ }
 {
     array && (elements != 0 && elements <= index)
 }
 
 fn lacks_room(double: bool, n: u8, count: bool) -> bool
-    ensures { λ r. ⌜ r ≡ noRoom double n count ⌝ }
+    ensures { λ r. ⌜ r ≡ lacksRoom double n count ⌝ }
 {
     double && (n == 3 && !count)
 }

@@ -2,14 +2,15 @@
 use mathlib.Core.Path.{_≡_, refl}
 use mathlib.Core.Bool.{Bool, true, false, not, cond}
 use mathlib.Core.List.{List, [], _∷_, _++_}
-use Prim.Native.Nat.{ℕ, zero, suc, _+_, _-_, _≤_}
+use Prim.Native.Nat.{ℕ, _+_, _-_, _≤_}
 use native.Mathlib.Omega.{arith}
-use lib.Dec.{lit≤, lit<, leb, ltb, eqb}
+use lib.Dec.{lit≤, leb, ltb, eqb}
 use lib.ListN.{length, take, drop, length-take}
 use Rattle.rows.specs.Rows.{firstOf}
 use Rattle.rows.proofs.RowsLaws.{first-all}
 use Rattle.words.specs.Words.{Bytes}
 use Rattle.words.specs.declared.Words.{Words}
+use Rattle.words.proofs.WordsLaws.{bytes-take}
 use Rattle.setup.specs.declared.Setup.{Setup}
 use Rattle.setup.specs.SetupRules.{setupOk, netBytes}
 use Rattle.setup.proofs.SetupLaws.{Configured, ok-configured, area-few}
@@ -31,7 +32,7 @@ use Rattle.broadcast.specs.Broadcast.{isVoid, controlAfter}
 use Rattle.slave.specs.declared.Served.{Served}
 use Rattle.slave.specs.declared.Answer.the-variants.{Mirrored, Taken}
 use Rattle.slave.specs.declared.Refusal.the-variants.{OtherNode, OtherLength, VoidBroadcast}
-use Rattle.slave.specs.Slave.{Outcome, Sent, refusedServed, refusedOf, written, firstWord, commandAt, taskDone, replyOf, normalOutcome, normalCase, mirrorCase, broadcastCase, executeDecoded, callOpened, callOf}
+use Rattle.slave.specs.Slave.{Outcome, MirrorSent, refusedServed, refusedOf, written, firstWord, commandAt, taskDone, replyOf, normalOutcome, normalCase, mirrorCase, broadcastCase, executeDecoded, callOpened, callOf}
 use Rattle.slave.proofs.CaseLaws.{executed}
 use Rattle.request.specs.declared.Request.{Request}
 use Rattle.request.specs.declared.Request.the-variants.{Task, Mirror as MirrorOf, Broadcast as BroadcastOf}
@@ -61,7 +62,7 @@ normal-most node n s t vs control status rx out c =
 mirror-most : (node : ℕ) (s : Setup) (control : Words) (rx out : List ℕ) → length rx ≤ 256 → mirrorCase node s control rx out .served .length ≤ 256
 unfolding mirrorCase
 mirror-most node s control rx out h =
-    first-all (λ (o : Sent). o .served .length ≤ 256)
+    first-all (λ (o : MirrorSent). o .served .length ≤ 256)
     ((not (eqb node (s .node)), record { served = refusedServed OtherNode control; reply = out }) ∷ [])
     (record { served = record { answer = Mirrored; length = length rx; control = control }; reply = written out rx })
     (lit≤ tt, tt) h
@@ -115,12 +116,6 @@ built-most s r net out = go (setupOk s) (expressible s r net) (ltb (length out) 
     go true true false e f = request-most s r net (ok-configured s e) f
 
 -- ---- the listing
-
-bytes-take : (n : ℕ) (t : List ℕ) → Bytes t → Bytes (take n t)
-bytes-take zero t b i = lit< tt
-bytes-take (suc n) [] b i = b i
-bytes-take (suc n) (x ∷ t) b zero = b 0
-bytes-take (suc n) (x ∷ t) b (suc i) = bytes-take n t (λ j. b (suc j)) i
 
 pub listed-most : (received out : List ℕ) → Bytes received → listedOf received out .place ≤ 64
 unfolding listedOf putOut

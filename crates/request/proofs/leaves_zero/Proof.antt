@@ -3,7 +3,7 @@ use mathlib.Core.Path.{sym, _∙_}
 use lib.Dec.{ltb}
 use borrow.Author.Tests.{not-true, not-false}
 use Rattle.request.specs.Request.{usedOrZero, unusedZero}
-use Rattle.request.proofs.AllLaws.{first-fails, second-fails, third-fails, last-decides}
+use Rattle.rows.proofs.BoolLaws.{first-fails, second-fails, third-fails, last-decides}
 use borrow.Author.Needs.{needs}
 use Rattle.request.proofs.leaves_zero.Statement.{statement}
 use Rattle.request.proofs.leaves_zero.Tie as tie
@@ -35,7 +35,7 @@ returns-2 c =
     let r2 = usedOrZero (ltb 1 (a .pzd)) (a .w .w2) in
     let r3 = usedOrZero (ltb 2 (a .pzd)) (a .w .w3) in
     let r4 = usedOrZero (ltb 3 (a .pzd)) (a .w .w4) in
-    sym (second-fails r1 r2 r3 r4 (sym (c .before .before .before .used-or-zero .ensures) ∙ not-false _ (c .before .before .if1 .left)) (sym (c .before .used-or-zero2 .ensures) ∙ not-true _ (c .if2 .taken)))
+    sym (second-fails r1 r2 r3 r4 (sym (c .before .used-or-zero2 .ensures) ∙ not-true _ (c .if2 .taken)))
 
 used-or-zero-requires-3 : tie.Need-used-or-zero-requires-3
 used-or-zero-requires-3 c κs = search needs
@@ -48,7 +48,7 @@ returns-3 c =
     let r2 = usedOrZero (ltb 1 (a .pzd)) (a .w .w2) in
     let r3 = usedOrZero (ltb 2 (a .pzd)) (a .w .w3) in
     let r4 = usedOrZero (ltb 3 (a .pzd)) (a .w .w4) in
-    sym (third-fails r1 r2 r3 r4 (sym (c .before .before .before .before .before .used-or-zero .ensures) ∙ not-false _ (c .before .before .before .before .if1 .left)) (sym (c .before .before .before .used-or-zero2 .ensures) ∙ not-false _ (c .before .before .if2 .left)) (sym (c .before .used-or-zero3 .ensures) ∙ not-true _ (c .if3 .taken)))
+    sym (third-fails r1 r2 r3 r4 (sym (c .before .used-or-zero3 .ensures) ∙ not-true _ (c .if3 .taken)))
 
 used-or-zero-requires-4 : tie.Need-used-or-zero-requires-4
 used-or-zero-requires-4 c κs = search needs

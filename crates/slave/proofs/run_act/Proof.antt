@@ -7,8 +7,8 @@ use Rattle.slave.proofs.run_act.Tie as tie
 use Rattle.slave.proofs.run_act.Reads as reads
 use Rattle.slave.proofs.run_act.Lts as lts
 use Rattle.slave.proofs.count_elements.Reads as count-elements-reads
-use Rattle.slave.proofs.read_id.Reads as read-id-reads
 use Rattle.slave.proofs.error_area.Reads as error-area-reads
+use Rattle.slave.proofs.pick_reply_id.Reads as pick-reply-id-reads
 use Rattle.slave.proofs.reply_area.Reads as reply-area-reads
 use Rattle.slave.proofs.store.Reads as store-reads
 
@@ -24,13 +24,13 @@ mul-value c = search needs
 slice-read-value : tie.Need-slice-read-value
 slice-read-value c = search needs
 
-read-id-requires : tie.Need-read-id-requires
-read-id-requires c κs = search needs
+pick-reply-id-requires : tie.Need-pick-reply-id-requires
+pick-reply-id-requires c κs = search needs
 
 reply-area-requires : tie.Need-reply-area-requires
 reply-area-requires c κs =
     let a = c .before .before .before .before .before in
-    rw (c .read-id .ensures) (read-reply-le (a .args .reply) (a .args .double) (a .pre .0))
+    rw (c .pick-reply-id .ensures) (read-reply-le (a .args .reply) (a .args .double) (a .pre .0))
 
 enum-told-3 : tie.Need-enum-told-3
 enum-told-3 c = search needs
@@ -60,7 +60,7 @@ returns : tie.Need-returns
 returns c = rw (c .enum-told .given .1) (record { area-is = refl; values-are = refl })
 
 returns-2 : tie.Need-returns-2
-returns-2 c = rw (c .before .before .before .enum-told2 .given .1) (record { area-is = c .reply-area .ensures ∙ rw (c .before .read-id .ensures); values-are = refl })
+returns-2 c = rw (c .before .before .before .enum-told2 .given .1) (record { area-is = c .reply-area .ensures ∙ rw (c .before .pick-reply-id .ensures); values-are = refl })
 
 same-length : tie.Need-same-length
 same-length c = search needs
@@ -82,7 +82,7 @@ run-act-spec =
     enum-told-2
     mul-value
     slice-read-value
-    read-id-requires
+    pick-reply-id-requires
     reply-area-requires
     enum-told-3
     store-requires

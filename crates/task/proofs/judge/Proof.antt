@@ -7,7 +7,7 @@ use Rattle.rows.proofs.RowsLaws.{Chosen}
 use Rattle.task.specs.declared.ParameterError.the-variants.{NotWritable, OutsideLimits}
 use Rattle.task.specs.declared.Verdict.{Verdict}
 use Rattle.task.specs.declared.Verdict.the-variants.{Granted, Denied}
-use Rattle.task.specs.Verdict.{refusesAct, changesAct, countsAct, otherWidth, noArray, noElement, noRoom, verdictOf}
+use Rattle.task.specs.Verdict.{refusesAct, changesAct, countsAct, differsWidth, lacksArray, lacksElement, lacksRoom, verdictOf}
 use Rattle.task.proofs.VerdictLaws.{judged}
 use borrow.Author.Needs.{needs}
 use Rattle.task.proofs.judge.Statement.{statement}
@@ -26,7 +26,7 @@ use Rattle.task.proofs.refuses.Reads as refuses-reads
 
 -- 106, 4, 3
 none-3 : (c : tie.Else3)
-    → (let a = c .before .before .before .before .before .before .args in (refusesAct (a .act) ≡ false) × (noArray (a .array) (a .elements) (a .index) ≡ false) × (noElement (a .array) (a .elements) (a .index) ≡ false))
+    → (let a = c .before .before .before .before .before .before .args in (refusesAct (a .act) ≡ false) × (lacksArray (a .array) (a .elements) (a .index) ≡ false) × (lacksElement (a .array) (a .elements) (a .index) ≡ false))
 none-3 c = (
   sym (c .before .before .before .before .before .refuses .ensures) ∙ c .before .before .before .before .if1 .left,
   sym (c .before .before .before .lacks-array .ensures) ∙ c .before .before .if2 .left,
@@ -34,13 +34,13 @@ none-3 c = (
 )
 
 -- 5
-none-4 : (c : tie.Joined4) → (let a = c .before .before .before .before .before .before .before .before .args in (changesAct (a .act) && otherWidth (a .width) (a .double)) ≡ false)
+none-4 : (c : tie.Joined4) → (let a = c .before .before .before .before .before .before .before .before .args in (changesAct (a .act) && differsWidth (a .width) (a .double)) ≡ false)
 none-4 c =
     ⊎-elim (λ w. rw (sym (c .before .changes .ensures) ∙ w .0 .taken) (sym (w .1 .ensures) ∙ w .2 .left)) (λ w. rw (sym (c .before .changes .ensures) ∙ w .left))
     (c .if4 .came)
 
 -- 102
-room : (c : tie.After-lacks-room) → (let a = c .before .before .before .before .before .before .before .before .before .before .args in noRoom (a .double) (a .n) (countsAct (a .act)) ≡ c .lacks-room .result)
+room : (c : tie.After-lacks-room) → (let a = c .before .before .before .before .before .before .before .before .before .before .args in lacksRoom (a .double) (a .n) (countsAct (a .act)) ≡ c .lacks-room .result)
 room c = sym (c .lacks-room .ensures ∙ rw (c .before .counts .ensures))
 
 -- all but the last two
