@@ -1,6 +1,6 @@
 -- The passes over table and values, as the code goes, and that they give the answers 21 and 22. Assumes nothing.
 use Prim.Native.Nat.{ℕ, suc, _+_, _-_, _*_, _/_, _%_, _<_, _≤_}
-use mathlib.Core.Path.{_≡_, refl, sym, _∙_}
+use mathlib.Core.Path.{_≡_, refl, _∙_}
 use mathlib.Core.List.{List, [], _∷_}
 use mathlib.Core.Bool.{Bool, true, false, not, cond, _&&_, and-true, and-false, false≢true}
 use native.Mathlib.Omega.{arith}
@@ -18,13 +18,6 @@ use Rattle.opening.specs.Rules.{risingFrom, eachOk, runOk, runsOk, table
 use Rattle.opening.specs.Answers.{contentOf}
 
 -- ---- one record
-
--- limits that do not fit
-pub low-unfit : (a b m w : Bool) → a ≡ false → false ≡ (a && b && m && w)
-low-unfit a b m w h = rw h
-
-pub high-unfit : (a b m w : Bool) → b ≡ false → false ≡ (a && b && m && w)
-high-unfit a b m w h = rw (h, and-false a)
 
 -- the step of the loop over a record's values, and its end
 again : (a l w r : Bool) → (a && (l && (w && r))) ≡ ((a && (l && w)) && (l && r))

@@ -132,34 +132,34 @@ abbrev pub zeroWords : Words
 zeroWords = record { w1 = 0; w2 = 0; w3 = 0; w4 = 0 }
 
 -- all zero in a refusal
-abbrev pub unread : ReadFault → Reading
-unread fault = record { answer = Unread fault; process = zeroWords }
+abbrev pub unreadOf : ReadFault → Reading
+unreadOf fault = record { answer = Unread fault; process = zeroWords }
 
 -- with PKW 0 there is no area and nothing to compare
 unfoldable pub readNormal : ℕ → ℕ → Setup → ℕ → ℕ → ℕ → List ℕ → Reading
 readNormal node n s id number index rx =
     firstOf
-    ((not (eqb node (s .node)), unread OtherNode)
-    ∷ (not (eqb n (netBytes s)), unread OtherLength)
+    ((not (eqb node (s .node)), unreadOf OtherNode)
+    ∷ (not (eqb n (netBytes s)), unreadOf OtherLength)
     ∷ (eqb (s .pkw) 0, record { answer = Read Empty; process = processAt rx (s .pkw) (s .pzd) zeroWords })
-    ∷ (badReply (s .pkw) id number index (areaAt rx (s .pkw)), unread NotTheReply)
+    ∷ (badReply (s .pkw) id number index (areaAt rx (s .pkw)), unreadOf NotTheReply)
     ∷ [])
     (record { answer = Read (replyContent id (areaAt rx (s .pkw))); process = processAt rx (s .pkw) (s .pzd) zeroWords })
 
 -- 15 also for bits 5 or 6
 abbrev pub readDecoded : Decoded → Setup → ℕ → ℕ → ℕ → List ℕ → Reading
 readDecoded (Normal node start end) s id number index rx = readNormal node (end - start) s id number index rx
-readDecoded (MirrorTelegram node) s id number index rx = unread (InTelegram InAddress)
-readDecoded BroadcastTelegram s id number index rx = unread (InTelegram InAddress)
-readDecoded (Refused fault) s id number index rx = unread (InTelegram fault)
+readDecoded (MirrorTelegram node) s id number index rx = unreadOf (InTelegram InAddress)
+readDecoded BroadcastTelegram s id number index rx = unreadOf (InTelegram InAddress)
+readDecoded (Refused fault) s id number index rx = unreadOf (InTelegram fault)
 
 unfoldable pub readTask : Setup → ℕ → ℕ → ℕ → List ℕ → Reading
 readTask s id number index rx = readDecoded (decodedOf rx) s id number index rx
 
 abbrev pub readRequest : Request → Setup → List ℕ → Reading
-readRequest (Task id number index value process) s rx = cond (taskAskable s id number index value process) (readTask s id number index rx) (unread NotAsked)
-readRequest Mirror s rx = unread NotAsked
-readRequest (Broadcast selector mask1 mask2 process) s rx = unread NotAsked
+readRequest (Task id number index value process) s rx = cond (taskAskable s id number index value process) (readTask s id number index rx) (unreadOf NotAsked)
+readRequest Mirror s rx = unreadOf NotAsked
+readRequest (Broadcast selector mask1 mask2 process) s rx = unreadOf NotAsked
 
 unfoldable pub readOf : Setup → Request → List ℕ → Reading
-readOf s r rx = cond (setupOk s) (readRequest r s rx) (unread UnfitSetup)
+readOf s r rx = cond (setupOk s) (readRequest r s rx) (unreadOf UnfitSetup)

@@ -5,7 +5,7 @@ ghost use Prim.Native.Nat.{_+_, _≤_};
 ghost use lib.Dec.{eqb};
 ghost use lib.ListN.{length};
 ghost use Rattle.setup.specs.SetupRules.{setupOk};
-ghost use Rattle.reply.specs.Reply.{inRow, knownId, misfit, notEmpty, otherEcho, badReply, replyContent, unread, readNormal, readTask, readOf};
+ghost use Rattle.reply.specs.Reply.{inRow, knownId, misfit, notEmpty, otherEcho, badReply, replyContent, unreadOf, readNormal, readTask, readOf};
 use frame::Decoded;
 use frame::Fault;
 use net::Area;
@@ -172,7 +172,7 @@ fn read_content(id: u8, area: Area) -> Content
 // ---- the reading
 
 fn refuse(fault: ReadFault) -> Reading
-    ensures { λ r. ⌜ r ≡ unread fault ⌝ }
+    ensures { λ r. ⌜ r ≡ unreadOf fault ⌝ }
 {
     Reading {
         answer: ReadAnswer::Unread(fault),

@@ -1,8 +1,8 @@
 -- `opening::holds` meets its contract. Assumes nothing.
-use mathlib.Core.Path.{_∙_}
+use mathlib.Core.Path.{sym, _∙_}
+use Rattle.rows.proofs.BoolLaws.{first-fails, second-fails}
 use Rattle.entry.specs.Limits.{fitsIn, atMost, isWithin}
 use Rattle.entry.proofs.LimitsLaws.{limits-shown, fits-double, fits-word, word-unfit}
-use Rattle.opening.proofs.PassLaws.{low-unfit, high-unfit}
 use borrow.Author.Needs.{needs}
 use Rattle.opening.proofs.holds.Statement.{statement}
 use Rattle.opening.proofs.holds.Tie as tie
@@ -20,13 +20,13 @@ returns c =
     c .within .ensures ∙ limits-shown (a .e) (a .v) (fits-double _ _ d) (fits-double _ _ d)
 
 returns-2 : tie.Need-returns-2
-returns-2 c = low-unfit _ _ _ _ (word-unfit _ _ (c .before .before .if1 .left) (c .if2 .taken))
+returns-2 c = sym (first-fails _ _ _ _ (word-unfit _ _ (c .before .before .if1 .left) (c .if2 .taken)))
 
 returns-3 : tie.Need-returns-3
 returns-3 c =
     let w = c .before .before .before .before in
     let e = w .before .args .e in
-    high-unfit (fitsIn (e .double) (e .minimum)) _ (atMost (e .double) (e .signed) (e .minimum) (e .maximum)) (isWithin e (w .before .args .v)) (word-unfit _ _ (w .if1 .left) (c .if3 .taken))
+    sym (second-fails (fitsIn (e .double) (e .minimum)) _ (atMost (e .double) (e .signed) (e .minimum) (e .maximum)) (isWithin e (w .before .args .v)) (word-unfit _ _ (w .if1 .left) (c .if3 .taken)))
 
 within-requires-2 : tie.Need-within-requires-2
 within-requires-2 c κs = search needs
