@@ -1,11 +1,11 @@
--- `runs_master::show_bytes` meets its contract. Assumes nothing.
+-- `runs_build::show_bytes` meets its contract. Assumes nothing.
 use Prim.Native.Nat.{_-_, _≤_}
 use borrow.Author.Needs.{needs}
-use Rattle.runs_master.proofs.show_bytes.Statement.{statement}
-use Rattle.runs_master.proofs.show_bytes.Tie as tie
-use Rattle.runs_master.proofs.show_bytes.Reads as reads
-use Rattle.runs_master.proofs.show_bytes.Lts as lts
-use Rattle.runs_master.proofs.show_byte.Reads as show-byte-reads
+use Rattle.runs_build.proofs.show_bytes.Statement.{statement}
+use Rattle.runs_build.proofs.show_bytes.Tie as tie
+use Rattle.runs_build.proofs.show_bytes.Reads as reads
+use Rattle.runs_build.proofs.show_bytes.Lts as lts
+use Rattle.runs_build.proofs.show_byte.Reads as show-byte-reads
 
 abbrev Inv-loop : tie.InvT-loop
 Inv-loop bytes n i₀ i-end i = i ≤ i-end
