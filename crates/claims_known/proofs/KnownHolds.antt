@@ -19,9 +19,9 @@ use Rattle.broadcast.specs.Broadcast.{isVoid, mergeOf, controlAfter}
 use Rattle.slave.specs.Perform.{performOn, foundOf, performOf}
 use Rattle.slave.specs.Slave.{taskDone, controlTaken, replyOf, normalCase, commandAt, broadcastCase, executeOf, callOf}
 use Rattle.request.specs.Request.{unusedZero, valueFits, taskFits, expressible}
-use Rattle.master.specs.Build.{taskArea, telegramFor, builtOf}
+use Rattle.master.specs.Build.{taskArea, telegramFor, admitted, builtOf}
 use Rattle.claims_known.specs.Known.{Case, known}
 
 pub known-holds : map (λ (k : Case). k .0) known ≡ map (λ (k : Case). k .1) known
-unfolding xorAll frameOf addressOf setupOk entryOf countOf signedOf numberOf atMost fitsIn isWithin entryOk entryAt entriesFrom entries findFrom countsOf risingFrom eachOk runOk runsOk openingOf areaWords netOf valueAt areaAt processAt tasks taskOf pageOf nibbleOf verdictOf elementOf isVoid mergeOf controlAfter performOn foundOf performOf taskDone controlTaken replyOf normalCase commandAt broadcastCase executeOf callOf taskArea telegramFor unusedZero valueFits taskFits expressible builtOf
+unfolding xorAll frameOf addressOf setupOk entryOf countOf signedOf numberOf atMost fitsIn isWithin entryOk entryAt entriesFrom entries findFrom countsOf risingFrom eachOk runOk runsOk openingOf areaWords netOf valueAt areaAt processAt tasks taskOf pageOf nibbleOf verdictOf elementOf isVoid mergeOf controlAfter performOn foundOf performOf taskDone controlTaken replyOf normalCase commandAt broadcastCase executeOf callOf taskArea telegramFor unusedZero valueFits taskFits expressible admitted builtOf
 known-holds = refl

@@ -24,7 +24,7 @@ use Rattle.net.specs.Net.{netOf}
 use Rattle.net.specs.Read.{processAt, Worded, firstWords}
 use Rattle.net.specs.Telegram.{telegramOf}
 use Rattle.net.proofs.NetLaws.{area-all}
-use Rattle.net.proofs.SealLaws.{length-telegram}
+use Rattle.net.proofs.SealLaws.{length-telegram, telegram-decoded}
 use Rattle.net.proofs.ReadLaws.{Headed, area-word, process-word, process-back}
 use Rattle.broadcast.specs.declared.Command.{Command}
 use Rattle.broadcast.specs.Broadcast.{selectsFirst, isVoid, controlAfter}
@@ -32,11 +32,11 @@ use Rattle.request.specs.declared.Request.the-variants.{Broadcast}
 use Rattle.request.specs.Request.{unusedZero, commandOf, expressible}
 use Rattle.slave.specs.declared.Served.{Served}
 use Rattle.slave.specs.declared.Answer.the-variants.{Taken}
-use Rattle.slave.specs.Slave.{firstWord, commandAt}
+use Rattle.slave.specs.Slave.{firstWord, commandAt, voidIn}
 use Rattle.slave.proofs.CaseLaws.{executed, broadcast-taken}
 use Rattle.master.specs.Build.{commandArea, telegramFor}
 use Rattle.claims_master.specs.Claims.{BroadcastRead}
-use Rattle.claims_master.proofs.SentLaws.{sent-decoded, net-count, net-some, net-fits}
+use Rattle.claims_master.proofs.SentLaws.{net-count, net-some, net-fits}
 use Rattle.claims_master.proofs.CarriedLaws.{area-words}
 
 -- a broadcast that is not void has both areas, and a selector of three bits
@@ -103,7 +103,7 @@ broadcast-read s selector mask1 mask2 process c v m1 m2 g =
     let f = not-void-commands (commandOf selector mask1 mask2) (s .pkw) (s .pzd) (process .w1) v in
     let h : Headed a = record { pke-word = omega (arith, f .selects); ind-word = m1 } in
     let d : decodedOf rx ≡ BroadcastTelegram =
-    sent-decoded 32 (netOf a (s .pkw) process (s .pzd)) (net-some s c a process) (net-fits s c a process)
+    telegram-decoded 32 (netOf a (s .pkw) process (s .pzd)) (net-some s c a process) (net-fits s c a process)
     ∙ ap (λ (x : Address). kindOf x (length (netOf a (s .pkw) process (s .pzd)) + 3)) to-all in
     let said = command-words 32 selector mask1 mask2 process (s .pzd) (s .pkw) (area-words s c (f .areas)) m2 h g in
     let words : (old : Words) → processAt rx (s .pkw) (s .pzd) old ≡ firstWords (s .pzd) process old =
@@ -111,7 +111,7 @@ broadcast-read s selector mask1 mask2 process c v m1 m2 g =
     let some : 0 < s .pzd = let n = f .process in omega arith in
     let one : firstWord s rx ≡ process .w1 =
     process-word 32 a (s .pkw) process (s .pzd) 0 (s .pkw * 2 + 3) (omega arith) h g some (c .process) in
-    let sound : isVoid (commandAt rx (s .pkw)) (s .pkw) (s .pzd) (firstWord s rx) ≡ false = rw (said, one) v in
+    let sound : voidIn s rx ≡ false = rw (said, one) v in
     let long : length rx - 4 ≡ netBytes s = omega (arith, length-telegram 32 (netOf a (s .pkw) process (s .pzd)), net-count s c a process) in
     record {
       decoded = d;

@@ -5,8 +5,7 @@ use mathlib.Core.Bool.{true}
 use mathlib.Core.List.{List}
 use Prim.Native.Nat.{ℕ, _+_, _-_, _≤_}
 use native.Mathlib.Omega.{arith}
-use lib.ListN.{length, drop, length-append, length-drop}
-use lib.Seq.{take-at, drop-at}
+use lib.ListN.{length}
 use Rattle.frame.specs.Frame.{frameOf}
 use Rattle.frame.specs.declared.FrameCheck.the-variants.{Sound}
 use Rattle.setup.specs.declared.Setup.{Setup}
@@ -14,7 +13,7 @@ use Rattle.setup.specs.SetupRules.{setupOk}
 use Rattle.setup.proofs.SetupLaws.{ok-configured}
 use Rattle.net.specs.Net.{netOf}
 use Rattle.net.specs.Telegram.{telegramOf}
-use Rattle.net.proofs.SealLaws.{length-telegram, telegram-passes}
+use Rattle.net.proofs.SealLaws.{length-telegram, telegram-passes, written-first, written-rest, written-long}
 use Rattle.request.specs.declared.Request.{Request}
 use Rattle.request.specs.declared.Request.the-variants.{Task, Mirror, Broadcast}
 use Rattle.request.specs.Request.{expressible}
@@ -53,15 +52,15 @@ sent-passes : (s : Setup) (r : Request) (net out : List ℕ) → SoundTelegram (
 sent-passes s r net out f room =
     let t = telegramFor s r net in
     record {
-      there = take-at t (drop (length t) out) (length t) refl;
+      there = written-first out t;
       long = refl;
       fits = f .few;
       passes = f .frame;
-      behind = drop-at t (drop (length t) out) (length t) refl;
-      whole = omega (arith, length-append t (drop (length t) out), length-drop (length t) out, f .few);
+      behind = written-rest out t;
+      whole = written-long out t (omega (arith, f .few));
     }
 
 pub built-passes : (s : Setup) (r : Request) (net out : List ℕ) → builtOf s r net out .built .answer ≡ Done → SoundBuild s r net out (builtOf s r net out)
 built-passes s r net out e =
     let b = done-buildable s r net out e in
-    rw (b .is) (sent-passes s r net out (request-sound s r net (b .setup-good) (b .asked)) (b .room))
+    rw (b .is) (sent-passes s r net out (request-sound s r net (b .passed .setup-good) (b .passed .asked)) (b .passed .enough))

@@ -14,19 +14,17 @@ use Rattle.setup.specs.declared.Setup.{Setup}
 use Rattle.setup.specs.SetupRules.{setupOk}
 use Rattle.setup.proofs.SetupLaws.{ok-configured}
 use Rattle.net.specs.Telegram.{telegramOf}
-use Rattle.net.proofs.SealLaws.{net-back}
+use Rattle.net.proofs.SealLaws.{net-back, telegram-decoded}
 use Rattle.request.specs.declared.Request.the-variants.{Mirror}
 use Rattle.request.specs.Request.{expressible}
 use Rattle.request.proofs.RequestLaws.{mirror-asked}
-use Rattle.slave.specs.Slave.{outcome, written, mirrorCase, executeDecoded}
-use Rattle.slave.specs.declared.Answer.the-variants.{Mirrored}
+use Rattle.slave.specs.Slave.{mirrorOutcome, mirrorCase, executeDecoded}
 use Rattle.slave.proofs.CaseLaws.{executed}
 use Rattle.master.specs.Build.{telegramFor}
 use Rattle.claims_master.specs.Claims.{MirrorRead}
-use Rattle.claims_master.proofs.SentLaws.{sent-decoded}
 
 mirror-served : (s : Setup) (t vs : List ℕ) (control status : Words) (rx out : List ℕ)
-    → executeDecoded (MirrorTelegram (s .node)) s t vs control status rx out ≡ outcome Mirrored (length rx) control vs (written out rx)
+    → executeDecoded (MirrorTelegram (s .node)) s t vs control status rx out ≡ mirrorOutcome control vs rx out
 unfolding mirrorCase
 mirror-served s t vs control status rx out = rw (eq-eqb (s .node) (s .node) refl)
 
@@ -36,7 +34,7 @@ mirror-is-read s net ok asked =
     let m = mirror-asked s net asked in
     let rx = telegramOf (s .node + 64) net in
     let d : decodedOf rx ≡ MirrorTelegram (s .node) =
-    sent-decoded (s .node + 64) net (m .0) (m .1) ∙ ap (λ (a : Address). kindOf a (length net + 3)) (to-mirror (s .node) (ok-configured s ok .nodes)) in
+    telegram-decoded (s .node + 64) net (m .0) (m .1) ∙ ap (λ (a : Address). kindOf a (length net + 3)) (to-mirror (s .node) (ok-configured s ok .nodes)) in
     record {
       decoded = d;
       net-is = net-back (s .node + 64) net (m .0) (m .1);

@@ -20,7 +20,7 @@ use Rattle.opening.proofs.AnswersLaws.{passed-opened}
 use Rattle.net.specs.declared.Area.{Area}
 use Rattle.net.specs.Net.{netOf}
 use Rattle.net.specs.Telegram.{telegramOf}
-use Rattle.net.specs.Read.{Worded, firstWords}
+use Rattle.net.specs.Read.{emptyArea, Worded, firstWords}
 use Rattle.net.proofs.ReadLaws.{Headed, process-back}
 use Rattle.task.specs.Task.{tasks, taskOf}
 use Rattle.task.proofs.PageLaws.{named-back, id-back}
@@ -28,7 +28,7 @@ use Rattle.request.specs.declared.Request.the-variants.{Task}
 use Rattle.request.specs.Request.{unusedZero, taskFits, expressible}
 use Rattle.request.proofs.RequestLaws.{AllZero, Asked, task-asked}
 use Rattle.slave.specs.Slave.{taskDone, replyOf}
-use Rattle.slave.specs.Perform.{Performed, emptyArea, performTask, performOf}
+use Rattle.slave.specs.Perform.{Performed, nothingDone, performTask, performOf}
 use Rattle.master.specs.Build.{taskArea, telegramFor}
 use Rattle.reply.specs.declared.Content.the-variants.{Empty}
 use Rattle.reply.specs.declared.ReadAnswer.the-variants.{Read}
@@ -115,7 +115,7 @@ performed-replies s t vs room id number index value c passed some fits v small =
 
 reply-of-task : (s : Setup) (t vs : List ℕ) (room id number index value : ℕ) (status : Words) (p : Performed) → Configured s
     → openingOf s t vs room ≡ Passed → taskFits (s .pkw) id number index value ≡ true → value < 4294967296 → Worded status → ((i : ℕ) → getD vs i 0 < 4294967296)
-    → p ≡ cond (eqb (s .pkw) 0) (record { area = emptyArea; values = vs }) (performOf (s .pkw) t vs (taskArea id number index value))
+    → p ≡ cond (eqb (s .pkw) 0) (nothingDone vs) (performOf (s .pkw) t vs (taskArea id number index value))
     → ReplyRead s (p .area) status (readTask s id number index (replyOf s (p .area) status))
 unfolding replyOf
 reply-of-task s t vs room id number index value status p c passed fits v g small e = go (eqb (s .pkw) 0) refl
@@ -123,7 +123,7 @@ reply-of-task s t vs room id number index value status p c passed fits v g small
     go : (b : Bool) → eqb (s .pkw) 0 ≡ b → ReplyRead s (p .area) status (readTask s id number index (replyOf s (p .area) status))
     go true q =
         let none : p .area ≡ emptyArea =
-        ap (λ (x : Performed). x .area) e ∙ ap (λ (b : Bool). cond b (record { area = emptyArea; values = vs }) (performOf (s .pkw) t vs (taskArea id number index value)) .area) q in
+        ap (λ (x : Performed). x .area) e ∙ ap (λ (b : Bool). cond b (nothingDone vs) (performOf (s .pkw) t vs (taskArea id number index value)) .area) q in
         let h : Headed emptyArea = record { pke-word = lit< tt; ind-word = lit< tt } in
         rw (none, read-none s c emptyArea status h g id number index (eqb-true (s .pkw) 0 q))
         (record { number-is = refl; id-is = refl; value-is = refl; process-is = refl; not-8 = λ z. omega arith })
@@ -131,7 +131,7 @@ reply-of-task s t vs room id number index value status p c passed fits v g small
         let a = performOf (s .pkw) t vs (taskArea id number index value) .area in
         let some = eqb-false (s .pkw) 0 q in
         let is : p .area ≡ a =
-        ap (λ (x : Performed). x .area) e ∙ ap (λ (b : Bool). cond b (record { area = emptyArea; values = vs }) (performOf (s .pkw) t vs (taskArea id number index value)) .area) q in
+        ap (λ (x : Performed). x .area) e ∙ ap (λ (b : Bool). cond b (nothingDone vs) (performOf (s .pkw) t vs (taskArea id number index value)) .area) q in
         let r = performed-replies s t vs room id number index value c passed some fits v small in
         rw (is, read-area s c a status (r .heads) g id number index some r)
         (record { number-is = refl; id-is = r .same-id; value-is = r .same-value; process-is = refl; not-8 = λ z. r .not-8 (sym (r .same-id) ∙ z) })

@@ -7,12 +7,13 @@ use native.Mathlib.Omega.{arith}
 use borrow.Author.Tests.{eq-eqb, ne-eqb, eqb-true, ltb-false}
 use lib.Dec.{eqb, lit<}
 use Rattle.net.specs.declared.Area.{Area}
+use Rattle.net.specs.Read.{emptyArea}
 use Rattle.net.proofs.ReadLaws.{Headed}
 use Rattle.task.specs.declared.Act.{Act}
 use Rattle.task.specs.Task.{taskOf}
 use Rattle.task.specs.Page.{nibbleOf, baseOf}
 use Rattle.task.proofs.PageLaws.{nibble-small, ind-nibble, ind-index, base-back, id-back, bit-zero}
-use Rattle.slave.specs.Perform.{emptyArea, replyArea}
+use Rattle.slave.specs.Perform.{replyArea}
 use Rattle.master.specs.Build.{taskArea}
 use Rattle.reply.specs.declared.Content.the-variants.{Value, Failed}
 use Rattle.reply.specs.Reply.{inRow, knownId, misfit, otherEcho, notEmpty, badReply, replyContent, contentId, contentValue}

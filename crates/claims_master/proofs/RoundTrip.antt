@@ -3,16 +3,16 @@
 use mathlib.Core.Path.{_≡_, refl, _∙_}
 use mathlib.Core.List.{List}
 use Prim.Native.Nat.{ℕ, _<_}
-use lib.ListN.{length, getD, take, drop}
-use lib.Seq.{take-at}
+use lib.ListN.{length, getD, take}
 use Rattle.words.specs.declared.Words.{Words}
 use Rattle.setup.specs.declared.Setup.{Setup}
 use Rattle.opening.specs.declared.Opening.the-variants.{Passed}
 use Rattle.opening.specs.Answers.{openingOf}
 use Rattle.net.specs.Read.{Worded}
+use Rattle.net.proofs.SealLaws.{written-first}
 use Rattle.request.specs.declared.Request.{Request}
 use Rattle.request.specs.declared.Request.the-variants.{Task}
-use Rattle.slave.specs.Slave.{taskDone, replyOf, written, callOf, normalOutcome}
+use Rattle.slave.specs.Slave.{taskDone, replyOf, callOf, normalOutcome}
 use Rattle.slave.proofs.CaseLaws.{called}
 use Rattle.master.specs.declared.BuildAnswer.the-variants.{Done}
 use Rattle.master.specs.Build.{telegramFor, builtOf}
@@ -29,8 +29,7 @@ called-on : (s : Setup) (t vs : List ℕ) (control status : Words) (r : Request)
     → RoundMade s r t vs status rx (callOf s t vs control status rx out)
 called-on s t vs control status r rx out e h =
     let reply = replyOf s (taskDone (s .pkw) t vs rx .area) status in
-    let there : take (length reply) (written out reply) ≡ reply = take-at reply (drop (length reply) out) (length reply) refl in
-    rw e (record { replied = refl; read-is = rw there h })
+    rw e (record { replied = refl; read-is = rw (written-first out reply) h })
 
 pub round-trip : (s : Setup) (t vs : List ℕ) (id number index value : ℕ) (process control status : Words) (net buffer out : List ℕ)
     → builtOf s (Task id number index value process) net buffer .built .answer ≡ Done → openingOf s t vs (length out) ≡ Passed
@@ -43,6 +42,6 @@ round-trip s t vs id number index value process control status net buffer out do
     let r = Task id number index value process in
     let b = done-buildable s r net buffer done in
     let rx = telegramFor s r net in
-    let e = called s t vs control status rx out Passed passed ∙ task-is-read s id number index value process net (b .setup-good) (b .asked) v w .served t vs control status out in
+    let e = called s t vs control status rx out Passed passed ∙ task-is-read s id number index value process net (b .passed .setup-good) (b .passed .asked) v w .served t vs control status out in
     rw (built-passes s r net buffer done .there)
-    (called-on s t vs control status r rx out e (reply-is-read s t vs (length out) id number index value process status net passed (b .asked) v w g small))
+    (called-on s t vs control status r rx out e (reply-is-read s t vs (length out) id number index value process status net passed (b .passed .asked) v w g small))

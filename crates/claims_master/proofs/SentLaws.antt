@@ -1,12 +1,10 @@
--- What a telegram of given net bytes is decoded as, by its address byte. Assumes nothing.
-use mathlib.Core.Path.{_≡_, ap, _∙_}
-use mathlib.Core.List.{List}
-use Prim.Native.Nat.{ℕ, _+_, _≤_}
+-- The telegrams of a set-up that may be used. Assumes nothing.
+use mathlib.Core.Path.{_≡_, _∙_}
+use Prim.Native.Nat.{_+_, _≤_}
 use native.Mathlib.Omega.{arith}
 use lib.ListN.{length}
 use Rattle.words.specs.declared.Words.{Words}
-use Rattle.frame.specs.Address.{addressOf, kindOf, decodedFrom, decodedOf}
-use Rattle.frame.specs.declared.FrameCheck.{FrameCheck}
+use Rattle.frame.specs.Address.{decodedOf}
 use Rattle.frame.specs.declared.Decoded.the-variants.{Normal}
 use Rattle.frame.proofs.AddressLaws.{to-one}
 use Rattle.setup.specs.declared.Setup.{Setup}
@@ -16,13 +14,8 @@ use Rattle.net.specs.declared.Area.{Area}
 use Rattle.net.specs.Net.{netOf}
 use Rattle.net.specs.Telegram.{telegramOf}
 use Rattle.net.proofs.NetLaws.{length-net}
-use Rattle.net.proofs.SealLaws.{telegram-passes}
+use Rattle.net.proofs.SealLaws.{telegram-decoded}
 
--- a telegram that can be sent is decoded by its address byte
-pub sent-decoded : (adr : ℕ) (net : List ℕ) → 1 ≤ length net → length net ≤ 252 → decodedOf (telegramOf adr net) ≡ kindOf (addressOf adr) (length net + 3)
-sent-decoded adr net some fits = ap (λ (r : FrameCheck). decodedFrom r adr) (telegram-passes adr net some fits)
-
--- the net bytes of a set-up that may be used
 module _ (s : Setup) (c : Configured s) (a : Area) (w : Words) where
   pub net-count : length (netOf a (s .pkw) w (s .pzd)) ≡ netBytes s
   net-count = length-net a (s .pkw) w (s .pzd) (c .process) ∙ omega arith
@@ -36,4 +29,4 @@ module _ (s : Setup) (c : Configured s) (a : Area) (w : Words) where
   -- a normal telegram of the set-up's node
   pub normal-decoded : decodedOf (telegramOf (s .node) (netOf a (s .pkw) w (s .pzd))) ≡ Normal (s .node) 3 (netBytes s + 3)
   normal-decoded =
-      sent-decoded (s .node) (netOf a (s .pkw) w (s .pzd)) net-some net-fits ∙ rw (to-one (s .node) (c .nodes), net-count)
+      telegram-decoded (s .node) (netOf a (s .pkw) w (s .pzd)) net-some net-fits ∙ rw (to-one (s .node) (c .nodes), net-count)

@@ -23,7 +23,7 @@ use Rattle.task.proofs.PageLaws.{ind-index, number-back, named-back, id-back}
 use Rattle.request.specs.declared.Request.the-variants.{Task}
 use Rattle.request.specs.Request.{unusedZero, taskFits, expressible}
 use Rattle.slave.specs.Slave.{firstWord, taskDone, controlTaken, executeOf, normalOutcome}
-use Rattle.slave.specs.Perform.{emptyArea, performOf}
+use Rattle.slave.specs.Perform.{nothingDone, performOf}
 use Rattle.slave.proofs.CaseLaws.{executed, normal-replied}
 use Rattle.master.specs.Build.{taskArea, telegramFor}
 use Rattle.claims_master.specs.Claims.{TaskRead}
@@ -53,12 +53,12 @@ normal-served s rx t vs control status out d =
 
 -- the task of an area that is read
 task-of : (n : ℕ) (t vs rx : List ℕ) (a : Area) → ((n ≡ 0 → ⊥) → areaAt rx n ≡ a)
-    → taskDone n t vs rx ≡ cond (eqb n 0) (record { area = emptyArea; values = vs }) (performOf n t vs a)
+    → taskDone n t vs rx ≡ cond (eqb n 0) (nothingDone vs) (performOf n t vs a)
 unfolding taskDone
 task-of n t vs rx a h = go (eqb n 0) refl
   where
     go : (b : Bool) → eqb n 0 ≡ b
-        → cond b (record { area = emptyArea; values = vs }) (performOf n t vs (areaAt rx n)) ≡ cond b (record { area = emptyArea; values = vs }) (performOf n t vs a)
+        → cond b (nothingDone vs) (performOf n t vs (areaAt rx n)) ≡ cond b (nothingDone vs) (performOf n t vs a)
     go true e = refl
     go false e = ap (λ (x : Area). performOf n t vs x) (h (eqb-false n 0 e))
 

@@ -11,6 +11,7 @@ use mathlib.Core.List.{List}
 use Prim.Native.Nat.{ℕ, _+_, _-_, _/_, _%_, _≤_, _<_}
 use lib.Dec.{eqb}
 use lib.ListN.{length, take, drop}
+use Rattle.rows.specs.Bits.{bit}
 use Rattle.words.specs.declared.Words.{Words}
 use Rattle.frame.specs.Frame.{frameOf, lastOf}
 use Rattle.frame.specs.Address.{decodedOf}
@@ -21,12 +22,12 @@ use Rattle.setup.specs.SetupRules.{netBytes}
 use Rattle.net.specs.declared.Area.{Area}
 use Rattle.net.specs.Read.{areaAt, processAt, firstWords}
 use Rattle.task.specs.Page.{fullNumber, named}
-use Rattle.broadcast.specs.Broadcast.{isVoid, controlAfter}
+use Rattle.broadcast.specs.Broadcast.{controlAfter}
 use Rattle.request.specs.declared.Request.{Request}
 use Rattle.request.specs.Request.{commandOf}
-use Rattle.slave.specs.Slave.{Outcome, outcome, written, firstWord, commandAt, taskDone, controlTaken, replyOf, executeOf}
-use Rattle.slave.specs.Perform.{emptyArea, performOf}
-use Rattle.slave.specs.declared.Answer.the-variants.{Replied, Mirrored, Taken}
+use Rattle.slave.specs.Slave.{Outcome, sentBy, firstWord, commandAt, taskDone, controlTaken, normalOutcome, mirrorOutcome, executeOf, voidIn}
+use Rattle.slave.specs.Perform.{nothingDone, performOf}
+use Rattle.slave.specs.declared.Answer.the-variants.{Replied, Taken}
 use Rattle.reply.specs.declared.Reading.{Reading}
 use Rattle.reply.specs.Reply.{readNumber, readId, readValue, zeroWords, readOf}
 use Rattle.master.specs.Build.{BuildOutcome, taskArea, telegramFor}
@@ -58,18 +59,17 @@ pub record TaskRead (s : Setup) (id number index value : ℕ) (process : Words) 
   pub first : 0 < s .pzd → firstWord s rx ≡ process .w1
   -- so no refusal comes: it performs the task that was asked, takes the process words and replies
   pub served : (t vs : List ℕ) (control status : Words) (out : List ℕ) → executeOf s t vs control status rx out
-      ≡ outcome Replied (length (replyOf s (taskDone (s .pkw) t vs rx .area) status)) (controlTaken s control rx)
-      (taskDone (s .pkw) t vs rx .values) (written out (replyOf s (taskDone (s .pkw) t vs rx .area) status))
+      ≡ normalOutcome s t vs control status rx out
   pub performed : (t vs : List ℕ) → taskDone (s .pkw) t vs rx
-      ≡ cond (eqb (s .pkw) 0) (record { area = emptyArea; values = vs }) (performOf (s .pkw) t vs (taskArea id number index value))
+      ≡ cond (eqb (s .pkw) 0) (nothingDone vs) (performOf (s .pkw) t vs (taskArea id number index value))
   pub controlled : (control : Words) → controlTaken s control rx
-      ≡ cond (not (eqb (s .pzd) 0) && eqb (process .w1 / 1024 % 2) 1) (firstWords (s .pzd) process control) control
+      ≡ cond (not (eqb (s .pzd) 0) && eqb (bit 10 (process .w1)) 1) (firstWords (s .pzd) process control) control
 
 -- of the bytes rx of a mirror telegram with these net bytes
 pub record MirrorRead (s : Setup) (net rx : List ℕ) : Type 0 where
   pub decoded : decodedOf rx ≡ MirrorTelegram (s .node)
   pub net-is : drop 3 (take (lastOf rx) rx) ≡ net
-  pub served : (t vs : List ℕ) (control status : Words) (out : List ℕ) → executeOf s t vs control status rx out ≡ outcome Mirrored (length rx) control vs (written out rx)
+  pub served : (t vs : List ℕ) (control status : Words) (out : List ℕ) → executeOf s t vs control status rx out ≡ mirrorOutcome control vs rx out
 
 -- of the bytes rx of a broadcast telegram, as a slave of any node with these areas takes them
 pub record BroadcastRead (s : Setup) (selector mask1 mask2 : ℕ) (process : Words) (rx : List ℕ) : Type 0 where
@@ -77,10 +77,14 @@ pub record BroadcastRead (s : Setup) (selector mask1 mask2 : ℕ) (process : Wor
   pub command : commandAt rx (s .pkw) ≡ commandOf selector mask1 mask2
   pub process-is : (old : Words) → processAt rx (s .pkw) (s .pzd) old ≡ firstWords (s .pzd) process old
   pub first : firstWord s rx ≡ process .w1
-  pub not-void : isVoid (commandAt rx (s .pkw)) (s .pkw) (s .pzd) (firstWord s rx) ≡ false
+  pub not-void : voidIn s rx ≡ false
   pub served : (node : ℕ) (t vs : List ℕ) (control status : Words) (out : List ℕ)
       → executeOf (record { node = node; pkw = s .pkw; pzd = s .pzd }) t vs control status rx out
-      ≡ outcome Taken 0 (controlAfter (commandOf selector mask1 mask2) control (firstWords (s .pzd) process control)) vs out
+      ≡ record {
+        served = record { answer = Taken; length = 0; control = controlAfter (commandOf selector mask1 mask2) control (firstWords (s .pzd) process control) };
+        values = vs;
+        reply = out;
+      }
 
 -- of the reading r of the slave's reply, whose parameter area is `area`: reply ID, value or error number, and status words
 pub record ReplyRead (s : Setup) (area : Area) (status : Words) (r : Reading) : Type 0 where
@@ -95,4 +99,4 @@ pub record ReplyRead (s : Setup) (area : Area) (status : Words) (r : Reading) : 
 -- slave answered
 pub record RoundMade (s : Setup) (r : Request) (t vs : List ℕ) (status : Words) (rx : List ℕ) (o : Outcome) : Type 0 where
   pub replied : o .served .answer ≡ Replied
-  pub read-is : ReplyRead s (taskDone (s .pkw) t vs rx .area) status (readOf s r (take (o .served .length) (o .reply)))
+  pub read-is : ReplyRead s (taskDone (s .pkw) t vs rx .area) status (readOf s r (sentBy o))

@@ -13,8 +13,8 @@ use native.Mathlib.Omega.{arith}
 use borrow.Author.Tests.{leb-true, leb-false, eq-eqb, ne-eqb}
 use lib.Dec.{leb, eqb, lit<}
 use lib.ListN.{length}
-use Rattle.rows.specs.Rows.{firstOf}
-use Rattle.rows.proofs.RowsLaws.{first-all, Chosen, first-chosen, chosen-first}
+use Rattle.rows.specs.Rows.{firstOf, Chosen}
+use Rattle.rows.proofs.RowsLaws.{first-all, first-chosen, chosen-first, first-read}
 use Rattle.words.specs.Words.{byteAt}
 use Rattle.words.specs.declared.Words.{Words}
 use Rattle.setup.specs.declared.Setup.{Setup}
@@ -31,29 +31,13 @@ use Rattle.frame.proofs.DecodedLaws.{framed-decoded}
 use Rattle.opening.specs.Answers.{openingRows, openingOf}
 use Rattle.opening.specs.declared.Opening.{Opening}
 use Rattle.opening.specs.declared.Opening.the-variants.{Passed}
-use Rattle.net.specs.Read.{processAt}
-use Rattle.broadcast.specs.Broadcast.{isVoid, controlAfter}
-use Rattle.slave.specs.declared.Answer.the-variants.{Mirrored, Taken}
+use Rattle.net.specs.Telegram.{written}
 use Rattle.slave.specs.declared.Refusal.the-variants.{OtherNode, OtherLength, VoidBroadcast}
 use Rattle.slave.specs.declared.Served.{Served}
-use Rattle.slave.specs.Slave.{Outcome, MirrorSent, answerNumber, refusedServed, refusedOf, written, firstWord, commandAt, normalOutcome, normalCase, mirrorCase, broadcastCase, executeDecoded, executeOf, callOpened, callOf}
+use Rattle.slave.specs.Slave.{Outcome, MirrorSent, answerNumber, refusedServed, refusedOf, normalOutcome, normalCase, mirrorServed, mirrorCase, voidIn, takenServed, broadcastCase, executeDecoded, executeOf, callOpened, callOf}
 use Rattle.slave.proofs.CaseLaws.{executed, called}
 use Rattle.claims_slave.specs.Outcomes.{NotFrame, PastFrame}
 use Rattle.claims_slave.specs.AnswerTable.{broadcastBit, mirrorBit, topBit, answerRows, acceptedNumber}
-
--- a table of tests with its answers read as k reads them
-abbrev readRows : {A : Type 0} → (A → ℕ) → List (Bool × A) → List (Bool × ℕ)
-readRows k [] = []
-readRows k (row ∷ rows) = (row .0, k (row .1)) ∷ readRows k rows
-
-first-read : {A : Type 0} (k : A → ℕ) (rows : List (Bool × A)) (other : A) → k (firstOf rows other) ≡ firstOf (readRows k rows) (k other)
-first-read k [] other = refl
-first-read k (row ∷ rows) other = go (row .0) (first-read k rows other)
-  where
-    go : (b : Bool) → k (firstOf rows other) ≡ firstOf (readRows k rows) (k other)
-        → k (cond b (row .1) (firstOf rows other)) ≡ cond b (k (row .1)) (firstOf (readRows k rows) (k other))
-    go true e = refl
-    go false e = e
 
 -- ---- the kinds
 
@@ -82,8 +66,8 @@ kinds false false false true true void = refl
 kinds false false false true false void = refl
 kinds false false false false long void = refl
 
-abbrev numberOf : Outcome → ℕ
-numberOf o = answerNumber (o .served .answer)
+abbrev numberIn : Outcome → ℕ
+numberIn o = answerNumber (o .served .answer)
 
 module _ (s : Setup) (rx : List ℕ) where
   abbrev ownNode : Bool
@@ -92,25 +76,22 @@ module _ (s : Setup) (rx : List ℕ) where
   abbrev ownLength : Bool
   ownLength = eqb (length rx - 4) (netBytes s)
 
-  abbrev voided : Bool
-  voided = isVoid (commandAt rx (s .pkw)) (s .pkw) (s .pzd) (firstWord s rx)
-
   abbrev tableNumber : ℕ
-  tableNumber = byLine (topBit rx) (broadcastBit rx) (mirrorBit rx) ownNode ownLength voided
+  tableNumber = byLine (topBit rx) (broadcastBit rx) (mirrorBit rx) ownNode ownLength (voidIn s rx)
 
   -- past the frame check
   table-beyond : NotFrame tableNumber
   table-beyond =
-      first-all NotFrame (lineRows (topBit rx) (broadcastBit rx) (mirrorBit rx) ownNode ownLength voided) 0
+      first-all NotFrame (lineRows (topBit rx) (broadcastBit rx) (mirrorBit rx) ownNode ownLength (voidIn s rx)) 0
       (inr (lit< tt), (inr (lit< tt), (inr (lit< tt), (inr (lit< tt), (inl (lit< tt), (inl (lit< tt), tt))))))
       (inl (lit< tt))
 
 module _ (s : Setup) (t vs : List ℕ) (control status : Words) (rx out : List ℕ) where
-  normal-number : (node n : ℕ) → numberOf (normalCase node n s t vs control status rx out)
+  normal-number : (node n : ℕ) → numberIn (normalCase node n s t vs control status rx out)
       ≡ firstOf ((not (eqb node (s .node)), 16) ∷ (not (eqb n (netBytes s)), 17) ∷ []) 0
   unfolding normalCase
   normal-number node n =
-      first-read numberOf
+      first-read numberIn
       ((not (eqb node (s .node)), refusedOf OtherNode control vs out)
       ∷ (not (eqb n (netBytes s)), refusedOf OtherLength control vs out)
       ∷ [])
@@ -122,20 +103,20 @@ module _ (s : Setup) (t vs : List ℕ) (control status : Words) (rx out : List �
   mirror-number node =
       first-read (λ (x : MirrorSent). answerNumber (x .served .answer))
       ((not (eqb node (s .node)), record { served = refusedServed OtherNode control; reply = out }) ∷ [])
-      (record { served = record { answer = Mirrored; length = length rx; control = control }; reply = written out rx })
+      (record { served = mirrorServed control rx; reply = written out rx })
 
   broadcast-number : answerNumber (broadcastCase (length rx - 4) s control rx .answer)
-      ≡ firstOf ((not (ownLength s rx), 17) ∷ (voided s rx, 18) ∷ []) 2
+      ≡ firstOf ((not (ownLength s rx), 17) ∷ (voidIn s rx, 18) ∷ []) 2
   unfolding broadcastCase
   broadcast-number =
       first-read (λ (x : Served). answerNumber (x .answer))
-      ((not (ownLength s rx), refusedServed OtherLength control) ∷ (voided s rx, refusedServed VoidBroadcast control) ∷ [])
-      (record { answer = Taken; length = 0; control = controlAfter (commandAt rx (s .pkw)) control (processAt rx (s .pkw) (s .pzd) control) })
+      ((not (ownLength s rx), refusedServed OtherLength control) ∷ (voidIn s rx, refusedServed VoidBroadcast control) ∷ [])
+      (takenServed s control rx)
 
   -- ---- the address byte
 
   abbrev ofDecoded : Decoded → ℕ
-  ofDecoded d = numberOf (executeDecoded d s t vs control status rx out)
+  ofDecoded d = numberIn (executeDecoded d s t vs control status rx out)
 
   sound-number : ofDecoded (kindOf (addressOf (byteAt rx 2)) (lastOf rx)) ≡ tableNumber s rx
   unfolding addressOf
@@ -144,14 +125,14 @@ module _ (s : Setup) (t vs : List ℕ) (control status : Words) (rx out : List �
       let normal = normal-number (byteAt rx 2 % 32) (lastOf rx - 3) in
       first-read (λ (a : Address). ofDecoded (kindOf a (lastOf rx))) (addressRows (byteAt rx 2)) (ToOne (byteAt rx 2 % 32))
       ∙ rw (normal, mirror-number (byteAt rx 2 % 32), broadcast-number, net)
-      (kinds (topBit rx) (broadcastBit rx) (mirrorBit rx) (ownNode s rx) (ownLength s rx) (voided s rx))
+      (kinds (topBit rx) (broadcastBit rx) (mirrorBit rx) (ownNode s rx) (ownLength s rx) (voidIn s rx))
 
   -- ---- the frame check
 
   abbrev frameNumbers : List (Bool × ℕ)
   frameNumbers = readRows (λ (r : FrameCheck). ofDecoded (decodedFrom r (byteAt rx 2))) (frameRows rx)
 
-  frame-number : numberOf (executeOf s t vs control status rx out) ≡ firstOf frameNumbers (tableNumber s rx)
+  frame-number : numberIn (executeOf s t vs control status rx out) ≡ firstOf frameNumbers (tableNumber s rx)
   unfolding executeOf frameOf
   frame-number =
       first-read (λ (r : FrameCheck). ofDecoded (decodedFrom r (byteAt rx 2))) (frameRows rx) (Sound (lastOf rx))
@@ -160,12 +141,12 @@ module _ (s : Setup) (t vs : List ℕ) (control status : Words) (rx out : List �
   -- ---- the opening check, and the whole
 
   abbrev ofOpening : Opening → ℕ
-  ofOpening o = numberOf (callOpened o s t vs control status rx out)
+  ofOpening o = numberIn (callOpened o s t vs control status rx out)
 
   abbrev openingNumbers : List (Bool × ℕ)
   openingNumbers = readRows ofOpening (openingRows s t vs (length out))
 
-  call-number : numberOf (callOf s t vs control status rx out) ≡ firstOf openingNumbers (numberOf (executeOf s t vs control status rx out))
+  call-number : numberIn (callOf s t vs control status rx out) ≡ firstOf openingNumbers (numberIn (executeOf s t vs control status rx out))
   unfolding callOf openingOf
   call-number = first-read ofOpening (openingRows s t vs (length out)) Passed
 
@@ -186,7 +167,7 @@ module _ (s : Setup) (t vs : List ℕ) (control status : Words) (rx out : List �
   beyond-frame p f =
       let o = called s t vs control status rx out Passed p
       ∙ executed s t vs control status rx out (kindOf (addressOf (byteAt rx 2)) (lastOf rx)) (framed-decoded rx f) in
-      subst NotFrame (sym (ap numberOf o ∙ sound-number)) (table-beyond s rx)
+      subst NotFrame (sym (ap numberIn o ∙ sound-number)) (table-beyond s rx)
 
 -- ---- bit 7
 

@@ -22,13 +22,11 @@ use Rattle.opening.specs.Answers.{openingOf}
 use Rattle.opening.specs.declared.OpeningFault.{OpeningFault}
 use Rattle.opening.specs.declared.Opening.{Opening}
 use Rattle.opening.specs.declared.Opening.the-variants.{Passed, Refused as Closed}
-use Rattle.broadcast.specs.Broadcast.{isVoid}
 use Rattle.slave.specs.declared.Refusal.{Refusal}
 use Rattle.slave.specs.declared.Refusal.the-variants.{AtOpening, InTelegram, OtherNode, OtherLength, VoidBroadcast}
 use Rattle.setup.specs.SetupRules.{netBytes}
-use Rattle.slave.specs.Slave.{Outcome, refusalNumber, refusedOf, firstWord, commandAt, normalOutcome, normalCase, mirrorCase, broadcastCase, executeDecoded, callOf}
+use Rattle.slave.specs.Slave.{Outcome, refusalNumber, refusedOf, normalOutcome, normalCase, mirrorOutcome, mirrorCase, voidIn, takenOutcome, broadcastCase, executeDecoded, callOf}
 use Rattle.slave.proofs.CaseLaws.{executed, called}
-use Rattle.claims_slave.specs.Outcomes.{mirrorOutcome, takenOutcome}
 
 -- the numbers 10 to 15
 fault-small : (f : Fault) → faultNumber f < 20
@@ -66,15 +64,12 @@ module _ (s : Setup) (t vs : List ℕ) (control status : Words) (rx out : List �
         go false e = rw e (refused OtherNode (lit< tt))
         go true e = rw e (mirrored (eqb-true _ _ e))
 
-    abbrev voided : Bool
-    voided = isVoid (commandAt rx (s .pkw)) (s .pkw) (s .pzd) (firstWord s rx)
-
-    broadcast-cases : (length rx - 4 ≡ netBytes s → voided ≡ false → P (takenOutcome s control vs rx out))
+    broadcast-cases : (length rx - 4 ≡ netBytes s → voidIn s rx ≡ false → P (takenOutcome s control vs rx out))
         → P (executeDecoded Broadcast s t vs control status rx out)
     unfolding broadcastCase
-    broadcast-cases taken = go (eqb (length rx - 4) (netBytes s)) voided refl refl
+    broadcast-cases taken = go (eqb (length rx - 4) (netBytes s)) (voidIn s rx) refl refl
       where
-        go : (a b : Bool) → eqb (length rx - 4) (netBytes s) ≡ a → voided ≡ b → P (executeDecoded Broadcast s t vs control status rx out)
+        go : (a b : Bool) → eqb (length rx - 4) (netBytes s) ≡ a → voidIn s rx ≡ b → P (executeDecoded Broadcast s t vs control status rx out)
         go false b e f = rw e (refused OtherLength (lit< tt))
         go true true e f = rw (e, f) (refused VoidBroadcast (lit< tt))
         go true false e f = rw (e, f) (taken (eqb-true _ _ e) f)
@@ -84,7 +79,7 @@ module _ (s : Setup) (t vs : List ℕ) (control status : Words) (rx out : List �
       → (openingOf s t vs (length out) ≡ Passed → decodedOf rx ≡ Normal (s .node) 3 (lastOf rx) → lastOf rx - 3 ≡ netBytes s → P (normalOutcome s t vs control status rx out))
       → (openingOf s t vs (length out) ≡ Passed → decodedOf rx ≡ Mirror (s .node) → P (mirrorOutcome control vs rx out))
       → (openingOf s t vs (length out) ≡ Passed → decodedOf rx ≡ Broadcast → length rx - 4 ≡ netBytes s
-      → isVoid (commandAt rx (s .pkw)) (s .pkw) (s .pzd) (firstWord s rx) ≡ false → P (takenOutcome s control vs rx out))
+      → voidIn s rx ≡ false → P (takenOutcome s control vs rx out))
       → P (callOf s t vs control status rx out)
   call-cases P refused replied mirrored taken = opened-at (openingOf s t vs (length out)) refl
     where

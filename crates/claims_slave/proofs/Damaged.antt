@@ -41,7 +41,7 @@ module _ (s : Setup) (table vs : List ℕ) (control status : Words) (out : List 
       let d : decodedOf rx ≡ Unread (InFrame (r .fault)) = ap (λ (x : FrameCheck). decodedFrom x (byteAt rx 2)) (r .answer) in
       rw (called s table vs control status rx out Passed p, executed s table vs control status rx out (Unread (InFrame (r .fault))) d)
       (record {
-        refused = refl;
+        is-refused = refl;
         least = r .least;
         most = r .most;
         untouched = record { silent = refl; held = refl; values-stay = refl; buffer-stays = refl };

@@ -8,7 +8,7 @@ use mathlib.Core.Bool.{Bool, true, false, cond, false≢true}
 use mathlib.Core.List.{List}
 use native.Mathlib.Omega.{arith}
 use lib.Dec.{eqb}
-use lib.ListN.{length, drop, length-append, length-drop}
+use lib.ListN.{length}
 use Rattle.words.specs.declared.Words.{Words}
 use Rattle.setup.specs.declared.Setup.{Setup}
 use Rattle.setup.proofs.SetupLaws.{ok-configured, area-few}
@@ -27,8 +27,8 @@ use Rattle.opening.proofs.KeptLaws.{change-keeps-opening}
 use Rattle.net.specs.declared.Area.{Area}
 use Rattle.net.specs.Net.{netOf}
 use Rattle.net.specs.Read.{areaAt}
-use Rattle.net.proofs.NetLaws.{length-net}
-use Rattle.net.proofs.SealLaws.{length-telegram}
+use Rattle.net.proofs.NetLaws.{length-normal}
+use Rattle.net.proofs.SealLaws.{written-long}
 use Rattle.task.specs.declared.Act.{Act}
 use Rattle.task.specs.declared.Act.the-variants.{Nothing as Idle, Read, Change, Count, Refuse}
 use Rattle.task.specs.declared.Width.{Width}
@@ -38,9 +38,9 @@ use Rattle.task.specs.declared.Verdict.the-variants.{Granted, Denied}
 use Rattle.task.specs.Task.{taskOf}
 use Rattle.task.specs.Page.{fullNumber, named}
 use Rattle.task.specs.Verdict.{verdictOf, elementOf}
-use Rattle.slave.specs.Perform.{carried, emptyArea, doneOf, verdictFor, performOn, performFound, foundOf, idle, performOf}
+use Rattle.slave.specs.Perform.{carried, nothingDone, doneOf, verdictFor, performOn, performFound, foundOf, idle, performOf}
 use Rattle.setup.specs.SetupRules.{netBytes}
-use Rattle.slave.specs.Slave.{Outcome, written, taskDone, replyOf, callOf}
+use Rattle.slave.specs.Slave.{Outcome, taskDone, replyOf, callOf}
 use Rattle.slave.proofs.PerformLaws.{granted-element, granted-inside}
 use Rattle.claims_slave.specs.Outcomes.{isRefused, Untouched}
 use Rattle.claims_slave.proofs.Cases.{call-cases}
@@ -108,23 +108,20 @@ module _ (s : Setup) (t vs : List ℕ) (room : ℕ) (passed : openingOf s t vs r
       found-keeps Nothing e = passed
       found-keeps (At j) e = record-keeps n k a j (found-is t a j e)
 
-      busy : (b : Bool) → Stays (cond b (record { area = emptyArea; values = vs }) (performFound n k a t vs (foundOf t a)) .values)
+      busy : (b : Bool) → Stays (cond b (nothingDone vs) (performFound n k a t vs (foundOf t a)) .values)
       busy true = passed
       busy false = found-keeps (foundOf t a) refl
 
-      go : (b : Bool) → Stays (cond b (record { area = emptyArea; values = vs }) (performOf n t vs a) .values)
+      go : (b : Bool) → Stays (cond b (nothingDone vs) (performOf n t vs a) .values)
       go true = passed
       go false = busy (idle (k .act))
 
 -- ---- the buffer's length
 
-written-long : (out telegram : List ℕ) → length telegram ≤ length out → length (written out telegram) ≡ length out
-written-long out telegram h = omega (arith, length-append telegram (drop (length telegram) out), length-drop (length telegram) out)
-
 -- a reply has the net bytes of the set-up, and four more
 pub reply-long : (s : Setup) (a : Area) (status : Words) → s .pzd ≤ 4 → length (replyOf s a status) ≡ netBytes s + 4
 unfolding replyOf
-reply-long s a status few = omega (arith, length-telegram (s .node) (netOf a (s .pkw) status (s .pzd)), length-net a (s .pkw) status (s .pzd) few)
+reply-long s a status few = omega (arith, length-normal a (s .pkw) status (s .pzd) few (s .node))
 
 -- ---- the next call passes the opening check too
 

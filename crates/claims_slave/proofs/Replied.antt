@@ -9,8 +9,8 @@ use mathlib.Core.Bool.{false}
 use mathlib.Core.List.{List}
 use native.Mathlib.Omega.{arith}
 use borrow.Author.Tests.{ne-eqb}
-use lib.ListN.{length, take, drop, set}
-use lib.Seq.{take-at, drop-at}
+use lib.ListN.{length, set}
+use Rattle.rows.specs.Bits.{bit}
 use Rattle.words.specs.declared.Words.{Words}
 use Rattle.setup.specs.declared.Setup.{Setup}
 use Rattle.setup.proofs.SetupLaws.{ok-configured, area-few}
@@ -27,10 +27,10 @@ use Rattle.opening.proofs.AnswersLaws.{passed-opened}
 use Rattle.net.specs.Net.{netOf}
 use Rattle.net.specs.Read.{processAt}
 use Rattle.net.proofs.NetLaws.{length-net}
-use Rattle.net.proofs.SealLaws.{telegram-passes}
+use Rattle.net.proofs.SealLaws.{telegram-passes, written-first, written-rest}
 use Rattle.slave.specs.declared.Answer.the-variants.{Replied, Mirrored}
 use Rattle.setup.specs.SetupRules.{netBytes}
-use Rattle.slave.specs.Slave.{written, firstWord, taskDone, replyOf, controlTaken, callOf}
+use Rattle.slave.specs.Slave.{firstWord, taskDone, replyOf, controlTaken, callOf}
 use Rattle.task.specs.declared.Act.{Act}
 use Rattle.slave.specs.Perform.{idle, doneOf, performOf}
 use Rattle.slave.proofs.PerformLaws.{task-granted, granted-place}
@@ -39,13 +39,6 @@ use Rattle.claims_slave.proofs.Kept.{reply-long, found-is}
 use Rattle.claims_slave.proofs.WhenAnswered.{replied-call, mirrored-call, replied-exactly, mirrored-exactly}
 
 -- ---- replies
-
--- a reply's first bytes are the telegram, the rest of the buffer is as it was
-sent-is : (out telegram : List ℕ) → take (length telegram) (written out telegram) ≡ telegram
-sent-is out telegram = take-at telegram (drop (length telegram) out) (length telegram) refl
-
-rest-is : (out telegram : List ℕ) → drop (length telegram) (written out telegram) ≡ drop (length telegram) out
-rest-is out telegram = drop-at telegram (drop (length telegram) out) (length telegram) refl
 
 module _ (s : Setup) (t vs : List ℕ) (control status : Words) (rx out : List ℕ) where
   pub reply-sound : callOf s t vs control status rx out .served .answer ≡ Replied → SoundReply s rx out (callOf s t vs control status rx out)
@@ -59,7 +52,7 @@ module _ (s : Setup) (t vs : List ℕ) (control status : Words) (rx out : List �
       let small = area-few s c in
       let frame : frameOf (replyOf s a status) ≡ Sound (3 + netBytes s) =
       telegram-passes (s .node) net (omega (arith, c .some)) (omega (arith, c .process)) ∙ ap Sound (omega arith) in
-      let sent = sent-is out (replyOf s a status) in
+      let sent = written-first out (replyOf s a status) in
       let rl = reply-long s a status (c .process) in
       let f = telegram-framed rx (Normal (s .node) 3 (3 + netBytes s)) (h .1) refl in
       let b = normal-bounds rx (s .node) 3 (3 + netBytes s) (h .1) in
@@ -69,14 +62,14 @@ module _ (s : Setup) (t vs : List ℕ) (control status : Words) (rx out : List �
         reads = ap decodedOf sent ∙ rw frame (ap (λ (x : Address). kindOf x (3 + netBytes s)) (to-one (s .node) (c .nodes)));
         reported = ap length (sym sent);
         as-long = rl ∙ omega (arith, b .1, f .counted .long);
-        rest = rest-is out (replyOf s a status);
+        rest = written-rest out (replyOf s a status);
       })
 
   pub mirror-same : callOf s t vs control status rx out .served .answer ≡ Mirrored → SameReply rx out (callOf s t vs control status rx out)
   mirror-same e =
       let h = mirrored-exactly s t vs control status rx out .0 e in
       rw (mirrored-call s t vs control status rx out (h .0) (h .1))
-      (record { same = sent-is out rx; as-long = refl; rest = rest-is out rx })
+      (record { same = written-first out rx; as-long = refl; rest = written-rest out rx })
 
 -- ---- what is stored
 
@@ -104,7 +97,7 @@ module _ (s : Setup) (t vs : List ℕ) (control status : Words) (rx out : List �
             (omega (arith, o .count, places-fit t (length t / 12) j (found-is t (areaOf s rx) j (g .found)))),
       )
 
-  pub control-replaced : callOf s t vs control status rx out .served .answer ≡ Replied → (s .pzd ≡ 0 → ⊥) → firstWord s rx / 1024 % 2 ≡ 1
+  pub control-replaced : callOf s t vs control status rx out .served .answer ≡ Replied → (s .pzd ≡ 0 → ⊥) → bit 10 (firstWord s rx) ≡ 1
       → callOf s t vs control status rx out .served .control ≡ processAt rx (s .pkw) (s .pzd) control
   unfolding controlTaken
   control-replaced e n b =

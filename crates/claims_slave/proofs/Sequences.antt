@@ -11,7 +11,8 @@ use lib.Dec.{lit<}
 use Rattle.setup.specs.declared.Setup.{Setup}
 use Rattle.slave.specs.Slave.{answerNumber}
 use Rattle.claims_slave.specs.Outcomes.{isRefused}
-use Rattle.claims_slave.specs.Sequence.{State, Event, Run, Opens, callAt, seenOf, stepOf, runOf, strike, kept, EachSeen}
+use Rattle.rows.specs.Rows.{Each}
+use Rattle.claims_slave.specs.Sequence.{State, Event, Run, Opens, callAt, seenOf, stepOf, runOf, strike, kept}
 use Rattle.claims_slave.proofs.Cases.{call-cases}
 use Rattle.claims_slave.proofs.Kept.{refused-keeps, opening-kept}
 
@@ -63,7 +64,7 @@ unfolding runOf
 stays-open s t q [] p = p
 stays-open s t q (e ∷ es) p = stays-open s t (stepOf s t q e) es (step-opens s t q e p)
 
-pub never-closed : (s : Setup) (t : List ℕ) (q : State) (es : List Event) → Opens s t q → EachSeen (λ x. answerNumber (x .answer) < 20) (runOf s t q es .seen)
+pub never-closed : (s : Setup) (t : List ℕ) (q : State) (es : List Event) → Opens s t q → Each (λ x. answerNumber (x .answer) < 20) (runOf s t q es .seen)
 unfolding runOf
 never-closed s t q [] p = tt
 never-closed s t q (e ∷ es) p = (below-20 s t q e p, never-closed s t (stepOf s t q e) es (step-opens s t q e p))

@@ -18,12 +18,11 @@ use Rattle.frame.specs.declared.Decoded.the-variants.{Normal, Mirror, Broadcast
 use Rattle.frame.proofs.DecodedLaws.{telegram-framed}
 use Rattle.opening.specs.Answers.{openingOf}
 use Rattle.opening.specs.declared.Opening.the-variants.{Passed}
-use Rattle.broadcast.specs.Broadcast.{isVoid}
 use Rattle.slave.specs.declared.Answer.the-variants.{Replied, Mirrored, Taken}
 use Rattle.setup.specs.SetupRules.{netBytes}
-use Rattle.slave.specs.Slave.{Outcome, answerNumber, firstWord, commandAt, normalOutcome, mirrorCase, callOf}
+use Rattle.slave.specs.Slave.{Outcome, answerNumber, normalOutcome, mirrorOutcome, mirrorCase, voidIn, takenOutcome, callOf}
 use Rattle.slave.proofs.CaseLaws.{normal-replied, broadcast-taken, executed, called}
-use Rattle.claims_slave.specs.Outcomes.{isRefused, mirrorOutcome, takenOutcome}
+use Rattle.claims_slave.specs.Outcomes.{isRefused}
 use Rattle.claims_slave.proofs.Cases.{call-cases}
 
 module _ (s : Setup) (t vs : List ℕ) (control status : Words) (rx out : List ℕ) where
@@ -32,9 +31,6 @@ module _ (s : Setup) (t vs : List ℕ) (control status : Words) (rx out : List �
 
   abbrev openingPasses : Type 0
   openingPasses = openingOf s t vs (length out) ≡ Passed
-
-  abbrev notVoid : Type 0
-  notVoid = isVoid (commandAt rx (s .pkw)) (s .pkw) (s .pzd) (firstWord s rx) ≡ false
 
   pub replied-call : openingOf s t vs (length out) ≡ Passed → decodedOf rx ≡ Normal (s .node) 3 (3 + netBytes s)
       → callOf s t vs control status rx out ≡ normalOutcome s t vs control status rx out
@@ -49,7 +45,7 @@ module _ (s : Setup) (t vs : List ℕ) (control status : Words) (rx out : List �
       called s t vs control status rx out Passed p ∙ executed s t vs control status rx out (Mirror (s .node)) d ∙ rw (eq-eqb (s .node) (s .node) refl)
 
   pub taken-call : openingOf s t vs (length out) ≡ Passed → decodedOf rx ≡ Broadcast → length rx ≡ netBytes s + 4
-      → isVoid (commandAt rx (s .pkw)) (s .pkw) (s .pzd) (firstWord s rx) ≡ false
+      → voidIn s rx ≡ false
       → callOf s t vs control status rx out ≡ takenOutcome s control vs rx out
   taken-call p d l v =
       called s t vs control status rx out Passed p ∙ executed s t vs control status rx out Broadcast d
@@ -80,9 +76,9 @@ module _ (s : Setup) (t vs : List ℕ) (control status : Words) (rx out : List �
 
   pub taken-exactly : (callOf s t vs control status rx out .served .answer ≡ Taken)
       ↔ ((openingOf s t vs (length out) ≡ Passed) × (decodedOf rx ≡ Broadcast) × (length rx ≡ netBytes s + 4)
-      × (isVoid (commandAt rx (s .pkw)) (s .pkw) (s .pzd) (firstWord s rx) ≡ false))
+      × (voidIn s rx ≡ false))
   taken-exactly = (
-    call-cases s t vs control status rx out (λ o. o .served .answer ≡ Taken → openingPasses × (decodedOf rx ≡ Broadcast) × (length rx ≡ netBytes s + 4) × notVoid)
+    call-cases s t vs control status rx out (λ o. o .served .answer ≡ Taken → openingPasses × (decodedOf rx ≡ Broadcast) × (length rx ≡ netBytes s + 4) × (voidIn s rx ≡ false))
         (λ r b e. absurd (false≢true (sym (ap isRefused e))))
         (λ p d l e. absurd (omega (arith, ap answerNumber e)))
         (λ p d e. absurd (omega (arith, ap answerNumber e)))

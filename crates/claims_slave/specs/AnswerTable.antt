@@ -13,8 +13,7 @@ use Rattle.setup.specs.declared.Setup.{Setup}
 use Rattle.setup.specs.SetupRules.{setupOk}
 use Rattle.frame.specs.Bcc.{xorAll}
 use Rattle.opening.specs.Rules.{tableOk, valuesOk}
-use Rattle.broadcast.specs.Broadcast.{isVoid}
-use Rattle.slave.specs.Slave.{firstWord, commandAt}
+use Rattle.slave.specs.Slave.{voidIn}
 
 abbrev pub broadcastBit : List ℕ → Bool
 broadcastBit rx = eqb (bit 5 (byteAt rx 2)) 1
@@ -53,7 +52,7 @@ answerRows s t vs room rx =
     -- not mirror, n not 2 × (PKW + PZD): n is all but 02, LGE, ADR, BCC
     ∷ (not (mirrorBit rx) && not (eqb (length rx - 4) ((s .pkw + s .pzd) * 2)), 17)
     -- void broadcast
-    ∷ (broadcastBit rx && isVoid (commandAt rx (s .pkw)) (s .pkw) (s .pzd) (firstWord s rx), 18)
+    ∷ (broadcastBit rx && voidIn s rx, 18)
     ∷ []
 
 abbrev pub acceptedNumber : List ℕ → ℕ

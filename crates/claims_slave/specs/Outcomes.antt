@@ -1,8 +1,5 @@
 -- What is said of one slave call, in document 01's words (Slave, Answer numbers).
 --     isRefused a                    an answer from 10 up
---     mirrorOutcome ..               a mirror's: the reply is the telegram, and nothing else changes
---     takenOutcome ..                a taken broadcast's: control words by the masks, and no reply
---     sentBy o                       the reply: the buffer's first bytes, as many as the call reports
 --     Untouched o control vs out     reply length 0, the given control state, nothing written
 --     SoundReply s rx out o          a whole telegram of the task's node and lengths, and no other byte written
 --     SameReply rx out o             the received telegram, byte for byte, and no other byte written
@@ -15,7 +12,7 @@ use mathlib.Core.Path.{_≡_}
 use mathlib.Core.Logic.{_⊎_}
 use mathlib.Core.Bool.{Bool, true, false}
 use mathlib.Core.List.{List}
-use lib.ListN.{length, take, drop}
+use lib.ListN.{length, drop}
 use Rattle.words.specs.declared.Words.{Words}
 use Rattle.setup.specs.declared.Setup.{Setup}
 use Rattle.frame.specs.Frame.{frameOf}
@@ -25,7 +22,7 @@ use Rattle.frame.specs.declared.Decoded.the-variants.{Normal}
 use Rattle.slave.specs.declared.Answer.{Answer}
 use Rattle.slave.specs.declared.Answer.the-variants.{Replied, Mirrored, Taken, Refused}
 use Rattle.net.specs.declared.Area.{Area}
-use Rattle.net.specs.Read.{areaAt, processAt}
+use Rattle.net.specs.Read.{areaAt}
 use Rattle.table.specs.Records.{entryAt, firstPlace}
 use Rattle.table.specs.declared.Found.the-variants.{At}
 use Rattle.task.specs.declared.Act.the-variants.{Change}
@@ -33,26 +30,15 @@ use Rattle.task.specs.declared.Task.{Task}
 use Rattle.task.specs.declared.Verdict.the-variants.{Granted}
 use Rattle.task.specs.Task.{taskOf}
 use Rattle.task.specs.Verdict.{elementOf}
-use Rattle.broadcast.specs.Broadcast.{controlAfter}
 use Rattle.slave.specs.Perform.{carried, verdictFor, foundOf}
 use Rattle.setup.specs.SetupRules.{netBytes}
-use Rattle.slave.specs.Slave.{Outcome, outcome, written, answerNumber, commandAt}
+use Rattle.slave.specs.Slave.{Outcome, sentBy, answerNumber}
 
 abbrev pub isRefused : Answer → Bool
 isRefused Replied = false
 isRefused Mirrored = false
 isRefused Taken = false
 isRefused (Refused refusal) = true
-
-abbrev pub mirrorOutcome : Words → List ℕ → List ℕ → List ℕ → Outcome
-mirrorOutcome control vs rx out = outcome Mirrored (length rx) control vs (written out rx)
-
-abbrev pub takenOutcome : Setup → Words → List ℕ → List ℕ → List ℕ → Outcome
-takenOutcome s control vs rx out =
-    outcome Taken 0 (controlAfter (commandAt rx (s .pkw)) control (processAt rx (s .pkw) (s .pzd) control)) vs out
-
-abbrev pub sentBy : Outcome → List ℕ
-sentBy o = take (o .served .length) (o .reply)
 
 pub record Untouched (o : Outcome) (control : Words) (vs out : List ℕ) : Type 0 where
   pub silent : o .served .length ≡ 0
@@ -74,7 +60,7 @@ pub record SameReply (rx out : List ℕ) (o : Outcome) : Type 0 where
   pub rest : drop (o .served .length) (o .reply) ≡ drop (o .served .length) out
 
 pub record FrameRefused (o : Outcome) (control : Words) (vs out : List ℕ) : Type 0 where
-  pub refused : isRefused (o .served .answer) ≡ true
+  pub is-refused : isRefused (o .served .answer) ≡ true
   pub least : 10 ≤ answerNumber (o .served .answer)
   pub most : answerNumber (o .served .answer) ≤ 14
   pub untouched : Untouched o control vs out

@@ -16,8 +16,8 @@ use Rattle.setup.specs.declared.Setup.{Setup}
 use Rattle.opening.specs.Answers.{openingOf}
 use Rattle.opening.specs.declared.Opening.the-variants.{Passed}
 use Rattle.slave.specs.declared.Answer.{Answer}
-use Rattle.slave.specs.Slave.{Outcome, callOf}
-use Rattle.claims_slave.specs.Outcomes.{isRefused, sentBy}
+use Rattle.slave.specs.Slave.{Outcome, sentBy, callOf}
+use Rattle.claims_slave.specs.Outcomes.{isRefused}
 
 pub record State : Type 0 where
   pub values : List ℕ
@@ -68,6 +68,3 @@ kept [] = []
 kept (x ∷ xs) = cond (isRefused (x .answer)) (kept xs) (x ∷ kept xs)
 
 -- P holds of each call that is seen
-abbrev pub EachSeen : (Seen → Type 0) → List Seen → Type 0
-EachSeen P [] = Unit {0}
-EachSeen P (x ∷ xs) = P x × EachSeen P xs

@@ -5,14 +5,15 @@
 use Prim.Native.Nat.{ℕ, _/_, _%_}
 use mathlib.Core.Bool.{cond}
 use lib.Dec.{eqb}
+use Rattle.rows.specs.Bits.{bit}
 use Rattle.entry.specs.declared.Entry.{Entry}
 
 unfoldable pub entryOf : ℕ → ℕ → ℕ → Entry
 entryOf head minimum maximum = record {
   number = head / 131072;
-  double = eqb (head / 65536 % 2) 1;
-  signed = eqb (head / 32768 % 2) 1;
-  writable = eqb (head / 16384 % 2) 1;
+  double = eqb (bit 16 head) 1;
+  signed = eqb (bit 15 head) 1;
+  writable = eqb (bit 14 head) 1;
   elements = head / 64 % 256;
   spare = head % 64;
   minimum = minimum;

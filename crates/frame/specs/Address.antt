@@ -3,11 +3,12 @@
 --     addressOf adr     what the address byte says
 --     decodedOf t       the bytes t as a telegram of one of the three kinds, or the first of 10 to 15 that applies
 --     faultNumber f     the document's number of a fault
-use Prim.Native.Nat.{ℕ, _/_, _%_}
+use Prim.Native.Nat.{ℕ, _%_}
 use mathlib.Core.Bool.{Bool, _&&_}
 use mathlib.Core.List.{List, [], _∷_}
 use lib.Dec.{leb, eqb}
 use Rattle.rows.specs.Rows.{firstOf}
+use Rattle.rows.specs.Bits.{bit}
 use Rattle.words.specs.Words.{byteAt}
 use Rattle.frame.specs.Frame.{frameOf, frameNumber}
 use Rattle.frame.specs.declared.FrameCheck.{FrameCheck}
@@ -23,9 +24,9 @@ use Rattle.frame.specs.declared.Decoded.the-variants.{Normal, Mirror, Br
 abbrev pub addressRows : ℕ → List (Bool × Address)
 addressRows adr =
     (leb 128 adr, ToNone)
-    ∷ (eqb (adr / 32 % 2) 1 && eqb (adr / 64 % 2) 1, ToNone)
-    ∷ (eqb (adr / 32 % 2) 1, ToAll)
-    ∷ (eqb (adr / 64 % 2) 1, ToMirror (adr % 32))
+    ∷ (eqb (bit 5 adr) 1 && eqb (bit 6 adr) 1, ToNone)
+    ∷ (eqb (bit 5 adr) 1, ToAll)
+    ∷ (eqb (bit 6 adr) 1, ToMirror (adr % 32))
     ∷ []
 
 unfoldable pub addressOf : ℕ → Address

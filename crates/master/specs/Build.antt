@@ -1,21 +1,22 @@
 -- The telegrams that a master builds (document 01, Answer numbers 30 to 32): the ignored bits of PKE and IND and an ignored PWE1
 -- are written 0, the index always as given; a mirror carries the node with bit 6; a broadcast is written as given with node 0.
 --     buildNumber f           the document's number of a refusal
---     admitted s askable room the first of 30, 31, 32 that applies, or none
 --     telegramFor s r net     the telegram of a request
+--     admitted s askable room the first of 30, 31, 32 that applies, or none: of a set-up, of a request that can be asked or not, of a
+--                             buffer's length
 --     builtOf s r net out     the answer, the length and the buffer afterwards
 use mathlib.Core.Path.{_≡_}
 use Prim.Native.Nat.{ℕ, _+_, _*_, _%_}
 use mathlib.Core.Bool.{Bool, not, cond}
-use mathlib.Core.List.{List, [], _∷_, _++_}
+use mathlib.Core.List.{List, [], _∷_}
 use lib.Dec.{eqb, ltb}
-use lib.ListN.{length, drop}
+use lib.ListN.{length}
 use Rattle.rows.specs.Rows.{firstOf}
 use Rattle.setup.specs.declared.Setup.{Setup}
 use Rattle.setup.specs.SetupRules.{setupOk}
 use Rattle.net.specs.declared.Area.{Area}
 use Rattle.net.specs.Net.{netOf}
-use Rattle.net.specs.Telegram.{telegramOf}
+use Rattle.net.specs.Telegram.{telegramOf, written}
 use Rattle.task.specs.Page.{nibbleOf}
 use Rattle.request.specs.declared.Request.{Request}
 use Rattle.request.specs.declared.Request.the-variants.{Task, Mirror, Broadcast}
@@ -63,23 +64,20 @@ unbuilt fault out = record { built = record { answer = Refused fault; length = 0
 
 -- only the telegram is written
 abbrev pub sent : List ℕ → List ℕ → BuildOutcome
-sent telegram out = record { built = record { answer = Done; length = length telegram }; out = telegram ++ drop (length telegram) out }
+sent telegram out = record { built = record { answer = Done; length = length telegram }; out = written out telegram }
 
 -- a writer that returns n leaves the telegram so
 pub record Sends (telegram out : List ℕ) (n : ℕ) (bytes : List ℕ) : Type 0 where
-  pub long : n ≡ sent telegram out .built .length
-  pub there : bytes ≡ sent telegram out .out
+  pub long : n ≡ length telegram
+  pub there : bytes ≡ written out telegram
 
--- the same tests, of a request that can be asked or not and of a buffer's length
+abbrev pub outcomeOf : BuildAnswer → List ℕ → List ℕ → BuildOutcome
+outcomeOf Done telegram out = sent telegram out
+outcomeOf (Refused fault) telegram out = unbuilt fault out
+
 unfoldable pub admitted : Setup → Bool → ℕ → BuildAnswer
 admitted s askable room =
     firstOf ((not (setupOk s), Refused BadSetup) ∷ (not askable, Refused NotExpressible) ∷ (ltb room 256, Refused ShortBuffer) ∷ []) Done
 
 unfoldable pub builtOf : Setup → Request → List ℕ → List ℕ → BuildOutcome
-builtOf s r net out =
-    firstOf
-    ((not (setupOk s), unbuilt BadSetup out)
-    ∷ (not (expressible s r net), unbuilt NotExpressible out)
-    ∷ (ltb (length out) 256, unbuilt ShortBuffer out)
-    ∷ [])
-    (sent (telegramFor s r net) out)
+builtOf s r net out = outcomeOf (admitted s (expressible s r net) (length out)) (telegramFor s r net) out

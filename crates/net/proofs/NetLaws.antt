@@ -14,7 +14,7 @@ use Rattle.net.proofs.SealLaws.{length-telegram}
 use Rattle.net.proofs.MixLaws.{xor-bytes}
 use Rattle.store.proofs.StoreLaws.{sets-append, sets-there, sets-beyond}
 use Rattle.net.specs.declared.Area.{Area}
-use Rattle.net.specs.Telegram.{telegramOf, sealedOf, sealedLength}
+use Rattle.net.specs.Telegram.{telegramOf, written, sealedOf, sealedLength}
 use Rattle.net.specs.Net.{bytesOf, wordsOf, valueWords, areaWords, netOf, normalOf, normalLength}
 
 pub bytes-append : (ws vs : List ℕ) → bytesOf (ws ++ vs) ≡ bytesOf ws ++ bytesOf vs
@@ -43,22 +43,23 @@ unfolding areaWords
 area-all n a h = take-all n (a .pke ∷ a .ind ∷ valueWords (n - 2) (a .value)) (omega (arith, length-value (n - 2) (a .value)))
 
 -- net bytes written at their place are there, with what stands behind them
-module _ (out : List ℕ) (adr : ℕ) (net : List ℕ) {out′ : List ℕ} (room : 256 ≤ length out) (fits : length net ≤ 252) (written : out′ ≡ sets out 3 net) where
+module _ (out : List ℕ) (adr : ℕ) (net : List ℕ) {out′ : List ℕ} (room : 256 ≤ length out) (fits : length net ≤ 252) (put : out′ ≡ sets out 3 net) where
   pub long : length out′ ≡ length out
-  long = ap length written ∙ length-sets out 3 net
+  long = ap length put ∙ length-sets out 3 net
 
   pub net-there : take (length net) (drop 3 out′) ≡ net
-  net-there = rw written (sets-there out 3 net (omega arith))
+  net-there = rw put (sets-there out 3 net (omega arith))
 
-  pub net-closed : telegramOf adr (take (length net) (drop 3 out′)) ++ drop (length net + 4) out′ ≡ telegramOf adr net ++ drop (length net + 4) out
+  pub net-closed : written out′ (telegramOf adr (take (length net) (drop 3 out′))) ≡ written out (telegramOf adr net)
   net-closed =
-      let beyond : drop (length net + 4) out′ ≡ drop (length net + 4) out = rw written (sets-beyond out 3 net (length net + 4) (omega arith)) in
-      rw (net-there, beyond)
+      let t = telegramOf adr net in
+      let beyond : drop (length t) out′ ≡ drop (length t) out = rw put (sets-beyond out 3 net (length t) (omega (arith, length-telegram adr net))) in
+      ap (λ (l : List ℕ). written out′ (telegramOf adr l)) net-there ∙ ap (λ (l : List ℕ). t ++ l) beyond
 
   -- made a telegram
-  pub net-sealed : 1 ≤ length net → (sealedLength out′ (length net) ≡ length net + 4) × (sealedOf out′ adr (length net) ≡ telegramOf adr net ++ drop (length net + 4) out)
+  pub net-sealed : 1 ≤ length net → (sealedLength out′ (length net) ≡ length (telegramOf adr net)) × (sealedOf out′ adr (length net) ≡ written out (telegramOf adr net))
   unfolding sealedOf sealedLength
-  net-sealed some = rw (le-leb 256 (length out′) (omega (arith, long)), le-leb 1 (length net) some, le-leb (length net) 252 fits) (refl, net-closed)
+  net-sealed some = rw (le-leb 256 (length out′) (omega (arith, long)), le-leb 1 (length net) some, le-leb (length net) 252 fits) (sym (length-telegram adr net), net-closed)
 
 module _ (a : Area) (n : ℕ) (w : Words) (pzd : ℕ) (few : pzd ≤ 4) where
   pub length-net : length (netOf a n w pzd) ≡ n * 2 + pzd * 2
@@ -67,18 +68,21 @@ module _ (a : Area) (n : ℕ) (w : Words) (pzd : ℕ) (few : pzd ≤ 4) where
       length-bytes (areaWords n a ++ take pzd (wordsOf w))
       ∙ omega (arith, length-append (areaWords n a) (take pzd (wordsOf w)), length-area n a, length-take-le pzd (wordsOf w) few)
 
+  pub length-normal : (adr : ℕ) → length (telegramOf adr (netOf a n w pzd)) ≡ n * 2 + pzd * 2 + 4
+  length-normal adr = omega (arith, length-telegram adr (netOf a n w pzd), length-net)
+
   -- the buffer after both areas were written: the net bytes are there
   pub areas-written : (out : List ℕ) (adr : ℕ) {out₁ out₂ : List ℕ} → 256 ≤ length out → n ≤ 4
       → out₁ ≡ sets out 3 (bytesOf (areaWords n a)) → out₂ ≡ sets out₁ (n * 2 + 3) (bytesOf (take pzd (wordsOf w)))
       → (256 ≤ length out₂) × (take (n * 2 + pzd * 2) (drop 3 out₂) ≡ netOf a n w pzd)
-      × (telegramOf adr (take (n * 2 + pzd * 2) (drop 3 out₂)) ++ drop (n * 2 + pzd * 2 + 4) out₂ ≡ telegramOf adr (netOf a n w pzd) ++ drop (length (netOf a n w pzd) + 4) out)
+      × (written out₂ (telegramOf adr (take (n * 2 + pzd * 2) (drop 3 out₂))) ≡ written out (telegramOf adr (netOf a n w pzd)))
   unfolding netOf
   areas-written out adr {out₁} {out₂} room short e f =
       let net = netOf a n w pzd in
       let place : n * 2 + 3 ≡ 3 + length (areaWords n a) * 2 = omega (arith, length-area n a) in
-      let written : out₂ ≡ sets out 3 net = put-more out 3 (areaWords n a) (take pzd (wordsOf w)) e (rw place at f) in
+      let put : out₂ ≡ sets out 3 net = put-more out 3 (areaWords n a) (take pzd (wordsOf w)) e (rw place at f) in
       let fits : length net ≤ 252 = omega (arith, length-net) in
-      (omega (arith, long out adr net room fits written), rw (← length-net) (net-there out adr net room fits written), rw (← length-net) (net-closed out adr net room fits written))
+      (omega (arith, long out adr net room fits put), rw (← length-net) (net-there out adr net room fits put), ap (λ (k : ℕ). written out₂ (telegramOf adr (take k (drop 3 out₂)))) (sym length-net) ∙ net-closed out adr net room fits put)
 
   -- the XOR of the words of both is that of the net bytes, by its two bytes
   pub areas-mixed : {first second : ℕ} → first ≡ xorAll (areaWords n a) → second ≡ xorAll (take pzd (wordsOf w))
@@ -89,19 +93,8 @@ module _ (a : Area) (n : ℕ) (w : Words) (pzd : ℕ) (few : pzd ≤ 4) where
 
   -- where the telegram can be sent, it is
   pub normal-sent : (out : List ℕ) (adr : ℕ) → 256 ≤ length out → 1 ≤ n + pzd → n ≤ 4
-      → (normalLength out a n w pzd ≡ length (netOf a n w pzd) + 4)
-      × (normalOf out adr a n w pzd ≡ telegramOf adr (netOf a n w pzd) ++ drop (length (netOf a n w pzd) + 4) out)
+      → (normalLength out a n w pzd ≡ length (telegramOf adr (netOf a n w pzd))) × (normalOf out adr a n w pzd ≡ written out (telegramOf adr (netOf a n w pzd)))
   unfolding normalOf normalLength
   normal-sent out adr room some short =
-      rw (le-ltb 4 n short, le-ltb 4 pzd few, ne-eqb (n + pzd) 0 (λ e. omega arith), le-ltb (length out) 256 room) (refl, refl)
-
-  -- and its length is that of the telegram
-  pub telegram-sent : (out : List ℕ) (adr : ℕ) → 256 ≤ length out → 1 ≤ n + pzd → n ≤ 4
-      → (normalLength out a n w pzd ≡ length (telegramOf adr (netOf a n w pzd)))
-      × (normalOf out adr a n w pzd ≡ telegramOf adr (netOf a n w pzd) ++ drop (length (telegramOf adr (netOf a n w pzd))) out)
-  telegram-sent out adr room some short =
-      let net = netOf a n w pzd in
-      let m = normal-sent out adr room some short in (
-        m .0 ∙ sym (length-telegram adr net),
-        m .1 ∙ ap (λ (k : ℕ). telegramOf adr net ++ drop k out) (sym (length-telegram adr net)),
-      )
+      rw (le-ltb 4 n short, le-ltb 4 pzd few, ne-eqb (n + pzd) 0 (λ e. omega arith), le-ltb (length out) 256 room)
+      (sym (length-telegram adr (netOf a n w pzd)), refl)

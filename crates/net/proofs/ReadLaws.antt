@@ -8,14 +8,14 @@ use native.Mathlib.Omega.{arith}
 use lib.Dec.{eqb, ltb, lit<}
 use lib.ListN.{length, getD, take, length-append, List·getD-append}
 use lib.Seq.{getD-append-add, getD-take, length-take-le}
-use borrow.Author.Tests.{le-leb, le-ltb, lt-ltb, ltb-true, eqb-false}
+use borrow.Author.Tests.{le-leb, le-ltb, lt-ltb, eq-eqb, ltb-true, eqb-false}
 use Rattle.frame.specs.Bcc.{xorAll}
 use Rattle.words.specs.Words.{wordAt, doubleAt, doubleOf, Bytes}
 use Rattle.words.specs.declared.Words.{Words}
 use Rattle.net.specs.declared.Area.{Area}
 use Rattle.net.specs.Telegram.{bodyOf, telegramOf}
 use Rattle.net.specs.Net.{bytesOf, wordsOf, valueWords, areaWords, netOf}
-use Rattle.net.specs.Read.{valueAt, areaAt, areaIn, wordTaken, processAt, processIn, firstWords, Worded}
+use Rattle.net.specs.Read.{valueAt, areaAt, areaIn, processAt, processIn, firstWords, Worded}
 use Rattle.net.proofs.NetLaws.{length-area, area-all}
 
 -- ---- words
@@ -119,7 +119,7 @@ area-three t long = rw (le-ltb (length t) 9 long, value-one t)
 
 pub area-four : (t : List ℕ) → Bytes t → 11 ≤ length t → areaIn t 4 ≡ record { pke = wordAt t 3; ind = wordAt t 5; value = doubleAt t 7 }
 unfolding areaIn areaAt
-area-four t bytes long = rw (le-ltb (length t) 9 (omega arith), le-leb 11 (length t) long, value-last t 2 7 bytes (omega arith) refl)
+area-four t bytes long = rw (le-ltb (length t) 11 long, value-last t 2 7 bytes (omega arith) refl)
 
 -- areas that are there
 pub area-in : (t : List ℕ) (n : ℕ) → 3 ≤ n → n ≤ 4 → n * 2 + 3 ≤ length t → areaIn t n ≡ areaAt t n
@@ -127,10 +127,10 @@ unfolding areaIn
 area-in t n low high there = go (eqb n 3) refl
   where
     go : (b : Bool) → eqb n 3 ≡ b → areaIn t n ≡ areaAt t n
-    go true e = rw (le-ltb (length t) 9 (omega arith), e)
+    go true e = rw (le-ltb (length t) (n * 2 + 3) there, e)
     go false e =
         let four : n ≡ 4 = omega (arith, eqb-false n 3 e) in
-        rw (le-ltb (length t) 9 (omega arith), e, four, le-leb 11 (length t) (omega arith))
+        rw (le-ltb (length t) (n * 2 + 3) there, e, eq-eqb n 4 four)
 
 module _ (t : List ℕ) (n pzd : ℕ) (old : Words) where
   pub process-in : n * 2 + 3 + pzd * 2 ≤ length t → processIn t n pzd old ≡ processAt t n pzd old
@@ -182,10 +182,10 @@ module _ (adr : ℕ) (a : Area) (n : ℕ) (w : Words) (pzd : ℕ) where
       λ i. record { pke = pke i; ind = ind i; value = value i }
 
   word-taken : (i p old : ℕ) → p ≡ n * 2 + 3 + i * 2 → Headed a → Worded w → pzd ≤ 4
-      → wordTaken (telegramOf adr (netOf a n w pzd)) p (ltb i pzd) old ≡ cond (ltb i pzd) (getD (wordsOf w) i 0) old
+      → cond (ltb i pzd) (wordAt (telegramOf adr (netOf a n w pzd)) p) old ≡ cond (ltb i pzd) (getD (wordsOf w) i 0) old
   word-taken i p old e h g few = go (ltb i pzd) refl
     where
-      go : (b : Bool) → ltb i pzd ≡ b → wordTaken (telegramOf adr (netOf a n w pzd)) p b old ≡ cond b (getD (wordsOf w) i 0) old
+      go : (b : Bool) → ltb i pzd ≡ b → cond b (wordAt (telegramOf adr (netOf a n w pzd)) p) old ≡ cond b (getD (wordsOf w) i 0) old
       go true f = process-word i p e h g (ltb-true i pzd f) few
       go false f = refl
 

@@ -10,10 +10,10 @@ use Prim.Native.Nat.{ℕ, zero, suc, _+_, _-_, _/_, _%_}
 use mathlib.Core.List.{List, [], _∷_, _++_}
 use mathlib.Core.Bool.{Bool, true, false, cond}
 use lib.Dec.{ltb, eqb}
-use lib.ListN.{length, take, drop}
+use lib.ListN.{length, take}
 use Rattle.rows.specs.Rows.{firstOf}
 use Rattle.words.specs.declared.Words.{Words}
-use Rattle.net.specs.Telegram.{telegramOf}
+use Rattle.net.specs.Telegram.{telegramOf, written}
 use Rattle.net.specs.declared.Area.{Area}
 
 abbrev pub bytesOf : List ℕ → List ℕ
@@ -39,7 +39,7 @@ writable out n pzd = firstOf ((ltb 4 n, false) ∷ (ltb 4 pzd, false) ∷ (eqb (
 
 unfoldable pub normalOf : List ℕ → ℕ → Area → ℕ → Words → ℕ → List ℕ
 normalOf out adr a n w pzd =
-    cond (writable out n pzd) (telegramOf adr (netOf a n w pzd) ++ drop (length (netOf a n w pzd) + 4) out) out
+    cond (writable out n pzd) (written out (telegramOf adr (netOf a n w pzd))) out
 
 unfoldable pub normalLength : List ℕ → Area → ℕ → Words → ℕ → ℕ
 normalLength out a n w pzd = cond (writable out n pzd) (length (netOf a n w pzd) + 4) 0

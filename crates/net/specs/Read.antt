@@ -1,14 +1,16 @@
 -- The areas of a telegram, read from its bytes (document 01, Parameter area): the net bytes start at place 3.
 --     valueAt t n             the value over n words from place 7 on, high word first; a value has two words at most
 --     areaAt t n              the parameter area of n words
+--     firstWords pzd w old    the first pzd of four words; the rest are the old ones
+--     wordsAt t p             the four words from place p on
 --     processAt t n pzd old   the first pzd process words, behind an area of n words; the rest are the old ones
+--     emptyArea               an area whose words are all 0
 --     areaIn t n              the area where it has 3 or 4 words and all are there, else all 0
 --     processIn t n pzd old   the process words where all are there, else the old ones
---     firstWords pzd w old    the first pzd of four words; the rest are the old ones
 --     Worded w                each of the four is a word
 use Prim.Native.Nat.{ℕ, zero, suc, _+_, _-_, _*_, _%_, _<_}
 use mathlib.Core.List.{List, [], _∷_}
-use mathlib.Core.Bool.{Bool, true, false, cond}
+use mathlib.Core.Bool.{cond}
 use lib.Dec.{ltb, leb, eqb}
 use lib.ListN.{length}
 use Rattle.rows.specs.Rows.{firstOf}
@@ -23,26 +25,6 @@ valueAt t (suc n) = doubleOf (valueAt t n % 65536) (wordAt t (n * 2 + 7))
 unfoldable pub areaAt : List ℕ → ℕ → Area
 areaAt t n = record { pke = wordAt t 3; ind = wordAt t 5; value = valueAt t (n - 2) }
 
-abbrev pub wordTaken : List ℕ → ℕ → Bool → ℕ → ℕ
-wordTaken t at taken old = cond taken (wordAt t at) old
-
-unfoldable pub processAt : List ℕ → ℕ → ℕ → Words → Words
-processAt t n pzd old = record {
-  w1 = wordTaken t (n * 2 + 3) (ltb 0 pzd) (old .w1);
-  w2 = wordTaken t (n * 2 + 3 + 2) (ltb 1 pzd) (old .w2);
-  w3 = wordTaken t (n * 2 + 3 + 4) (ltb 2 pzd) (old .w3);
-  w4 = wordTaken t (n * 2 + 3 + 6) (ltb 3 pzd) (old .w4);
-}
-
-abbrev pub hasArea : List ℕ → ℕ → Bool
-hasArea t n = firstOf ((ltb (length t) 9, false) ∷ (eqb n 3, true) ∷ (eqb n 4, leb 11 (length t)) ∷ []) false
-
-unfoldable pub areaIn : List ℕ → ℕ → Area
-areaIn t n = cond (hasArea t n) (areaAt t n) (record { pke = 0; ind = 0; value = 0 })
-
-unfoldable pub processIn : List ℕ → ℕ → ℕ → Words → Words
-processIn t n pzd old = cond (leb (n * 2 + 3 + pzd * 2) (length t)) (processAt t n pzd old) old
-
 abbrev pub firstWords : ℕ → Words → Words → Words
 firstWords pzd w old = record {
   w1 = cond (ltb 0 pzd) (w .w1) (old .w1);
@@ -50,6 +32,21 @@ firstWords pzd w old = record {
   w3 = cond (ltb 2 pzd) (w .w3) (old .w3);
   w4 = cond (ltb 3 pzd) (w .w4) (old .w4);
 }
+
+abbrev pub wordsAt : List ℕ → ℕ → Words
+wordsAt t p = record { w1 = wordAt t p; w2 = wordAt t (p + 2); w3 = wordAt t (p + 4); w4 = wordAt t (p + 6) }
+
+unfoldable pub processAt : List ℕ → ℕ → ℕ → Words → Words
+processAt t n pzd old = firstWords pzd (wordsAt t (n * 2 + 3)) old
+
+abbrev pub emptyArea : Area
+emptyArea = record { pke = 0; ind = 0; value = 0 }
+
+unfoldable pub areaIn : List ℕ → ℕ → Area
+areaIn t n = firstOf ((ltb (length t) (n * 2 + 3), emptyArea) ∷ (eqb n 3, areaAt t n) ∷ (eqb n 4, areaAt t n) ∷ []) emptyArea
+
+unfoldable pub processIn : List ℕ → ℕ → ℕ → Words → Words
+processIn t n pzd old = cond (leb (n * 2 + 3 + pzd * 2) (length t)) (processAt t n pzd old) old
 
 pub record Worded (w : Words) : Type 0 where
   pub first : w .w1 < 65536

@@ -1,16 +1,16 @@
 // The net bytes of a telegram, read and written: the words of a parameter area and of a process area, and the frame around
 // them (document 01, Frame and Parameter area). Slave and master read and write here alike.
 ghost use mathlib.Core.Path.{_≡_};
-ghost use mathlib.Core.Bool.{true};
-ghost use mathlib.Core.List.{[], _∷_, _++_};
+ghost use mathlib.Core.Bool.{true, cond};
+ghost use mathlib.Core.List.{[], _∷_};
 ghost use Prim.Native.Nat.{_+_, _≤_};
 ghost use lib.ListN.{length, take, drop};
 ghost use lib.Seq.{sets};
 ghost use Rattle.words.specs.Words.{wordAt};
 ghost use Rattle.frame.specs.Bcc.{xorAll};
-ghost use Rattle.net.specs.Telegram.{telegramOf, sealedOf, sealedLength};
+ghost use Rattle.net.specs.Telegram.{telegramOf, written, sealedOf, sealedLength};
 ghost use Rattle.net.specs.Net.{bytesOf, wordsOf, valueWords, areaWords, normalOf, normalLength};
-ghost use Rattle.net.specs.Read.{wordTaken, areaIn, processIn};
+ghost use Rattle.net.specs.Read.{emptyArea, areaIn, processIn};
 use words::Words;
 use words::join;
 use words::join_double;
@@ -100,7 +100,7 @@ fn put_area(out: &mut [u8], area: Area, n: u8) -> u16
 // The n net bytes at place 3 and on, whose XOR is `sum`, become a telegram: 02, LGE and ADR before them, BCC behind.
 fn close(out: &mut [u8], adr: u8, n: usize, sum: u8) -> usize
     requires { ⌜ (256 ≤ length (now out)) × (n ≤ 252) × (sum ≡ xorAll (take n (drop 3 (now out)))) ⌝ }
-    ensures { λ r. ⌜ (r ≡ n + 4) × (now (out .exit) ≡ telegramOf adr (take n (drop 3 (now (out .entry)))) ++ drop (n + 4) (now (out .entry))) ⌝ }
+    ensures { λ r. ⌜ (r ≡ n + 4) × (now (out .exit) ≡ written (now (out .entry)) (telegramOf adr (take n (drop 3 (now (out .entry)))))) ⌝ }
 {
     let lge = (n + 2) as u8;
     out[0] = 2;
@@ -161,24 +161,10 @@ fn word_in(t: &[u8], at: usize) -> u16
     join(t[at], t[at + 1])
 }
 
-// The parameter area of n words, at the place of the first net byte: 3 or 4 words that are all there, else all 0.
-pub fn read_area(t: &[u8], n: u8) -> Area
-    ensures { λ r. ⌜ r ≡ areaIn (now (t .entry)) n ⌝ }
+// The area whose words are all 0.
+pub fn empty_area() -> Area
+    ensures { λ r. ⌜ r ≡ emptyArea ⌝ }
 {
-    if 9 <= t.len() {
-        let pke = word_in(t, 3);
-        let ind = word_in(t, 5);
-        if n == 3 {
-            let value = word_in(t, 7) as u32;
-            return Area { pke, ind, value };
-        }
-        if n == 4 {
-            if 11 <= t.len() {
-                let value = join_double(word_in(t, 7), word_in(t, 9));
-                return Area { pke, ind, value };
-            }
-        }
-    }
     Area {
         pke: 0,
         ind: 0,
@@ -186,10 +172,36 @@ pub fn read_area(t: &[u8], n: u8) -> Area
     }
 }
 
+// The parameter area of n words, at the place of the first net byte: 3 or 4 words that are all there, else all 0.
+pub fn read_area(t: &[u8], n: u8) -> Area
+    ensures { λ r. ⌜ r ≡ areaIn (now (t .entry)) n ⌝ }
+{
+    if t.len() < (n as usize) * 2 + 3 {
+        return empty_area();
+    }
+    if n == 3 {
+        let value = word_in(t, 7) as u32;
+        return Area {
+            pke: word_in(t, 3),
+            ind: word_in(t, 5),
+            value,
+        };
+    }
+    if n == 4 {
+        let value = join_double(word_in(t, 7), word_in(t, 9));
+        return Area {
+            pke: word_in(t, 3),
+            ind: word_in(t, 5),
+            value,
+        };
+    }
+    empty_area()
+}
+
 // The word at a place where it is taken, else the old one.
 fn take_word(t: &[u8], at: usize, taken: bool, old: u16) -> u16
     requires { ⌜ (at ≤ 1000000) × (taken ≡ true → at + 2 ≤ length (now t)) ⌝ }
-    ensures { λ r. ⌜ r ≡ wordTaken (now (t .entry)) at taken old ⌝ }
+    ensures { λ r. ⌜ r ≡ cond taken (wordAt (now (t .entry)) at) old ⌝ }
 {
     if taken { word_in(t, at) } else { old }
 }

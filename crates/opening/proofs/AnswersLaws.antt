@@ -7,8 +7,8 @@ use native.Mathlib.Omega.{arith}
 use borrow.Author.Tests.{lt-ltb, le-ltb, le-leb, eq-eqb, ltb-false, leb-true, eqb-true}
 use lib.ListN.{length}
 use lib.Dec.{eqb, leb, ltb}
-use Rattle.rows.specs.Rows.{firstOf}
-use Rattle.rows.proofs.RowsLaws.{Chosen, first-chosen, chosen-first}
+use Rattle.rows.specs.Rows.{firstOf, Chosen}
+use Rattle.rows.proofs.RowsLaws.{first-chosen, chosen-first}
 use Rattle.rows.proofs.BoolLaws.{and-left, and-right}
 use Rattle.setup.specs.declared.Setup.{Setup}
 use Rattle.setup.specs.SetupRules.{setupOk}

@@ -1,21 +1,16 @@
 -- Laws of a table of tests in order. Assumes nothing.
 use mathlib.Core.Path.{_≡_, refl, sym, ap, _∙_}
-use mathlib.Core.Logic.{_⊎_, inl, inr}
+use mathlib.Core.Logic.{inl, inr}
 use mathlib.Core.Bool.{Bool, true, false, cond, false≢true}
 use mathlib.Core.List.{List, [], _∷_}
 use borrow.Author.Tests.{le-ltb, lt-ltb, le-leb, lt-leb, eq-eqb, ne-eqb}
-use Rattle.rows.specs.Rows.{firstOf}
+use Rattle.rows.specs.Rows.{firstOf, Chosen, Each}
 
 -- what a test of the code says of the same test in a definition: `search tests` finds the row that the code took
 pub ruleset tests = (le-ltb, lt-ltb, le-leb, lt-leb, eq-eqb, ne-eqb)
 
--- P holds of each row's answer
-abbrev pub EachRow : {A : Type 0} → (A → Type 0) → List (Bool × A) → Type 0
-EachRow P [] = Unit {0}
-EachRow P (row ∷ rows) = P (row .1) × EachRow P rows
-
 -- what holds of each answer holds of the one given
-pub first-all : {A : Type 0} (P : A → Type 0) (rows : List (Bool × A)) (other : A) → EachRow P rows → P other → P (firstOf rows other)
+pub first-all : {A : Type 0} (P : A → Type 0) (rows : List (Bool × A)) (other : A) → Each (λ (row : Bool × A). P (row .1)) rows → P other → P (firstOf rows other)
 first-all P [] other e o = o
 first-all P (row ∷ rows) other e o = go (row .0) (e .0) (first-all P rows other (e .1) o)
   where
@@ -23,11 +18,7 @@ first-all P (row ∷ rows) other e o = go (row .0) (e .0) (first-all P rows othe
     go true p q = p
     go false p q = q
 
--- an answer is given exactly where its row's test holds and no earlier one does
-abbrev pub Chosen : {A : Type 0} → List (Bool × A) → A → A → Type 0
-Chosen [] other r = r ≡ other
-Chosen (row ∷ rows) other r = ((row .0 ≡ true) × (r ≡ row .1)) ⊎ ((row .0 ≡ false) × Chosen rows other r)
-
+-- the answer is the one that is chosen
 pub first-chosen : {A : Type 0} (rows : List (Bool × A)) (other : A) → Chosen rows other (firstOf rows other)
 first-chosen [] other = refl
 first-chosen (row ∷ rows) other = go (row .0) refl (first-chosen rows other)
@@ -45,3 +36,17 @@ chosen-first (row ∷ rows) other r (inr h) = chosen-first rows other r (h .1) �
 pub row-passed : {A : Type 0} (good : A → Bool) (b : Bool) (a r : A) → good a ≡ false → good (cond b a r) ≡ true → (b ≡ false) × (good r ≡ true)
 row-passed good true a r e h = absurd (false≢true (sym e ∙ h))
 row-passed good false a r e h = (refl, h)
+
+-- a table of tests with its answers read as k reads them
+abbrev pub readRows : {A B : Type 0} → (A → B) → List (Bool × A) → List (Bool × B)
+readRows k [] = []
+readRows k (row ∷ rows) = (row .0, k (row .1)) ∷ readRows k rows
+
+pub first-read : {A B : Type 0} (k : A → B) (rows : List (Bool × A)) (other : A) → k (firstOf rows other) ≡ firstOf (readRows k rows) (k other)
+first-read k [] other = refl
+first-read k (row ∷ rows) other = go (row .0) (first-read k rows other)
+  where
+    go : (b : Bool) → k (firstOf rows other) ≡ firstOf (readRows k rows) (k other)
+        → k (cond b (row .1) (firstOf rows other)) ≡ cond b (k (row .1)) (firstOf (readRows k rows) (k other))
+    go true e = refl
+    go false e = e

@@ -15,7 +15,8 @@ use Rattle.setup.proofs.SetupLaws.{Configured, area-few}
 use Rattle.net.specs.declared.Area.{Area}
 use Rattle.net.specs.Read.{areaIn, processAt, processIn}
 use Rattle.net.specs.Net.{normalOf, normalLength}
-use Rattle.net.proofs.NetLaws.{telegram-sent}
+use Rattle.net.specs.Telegram.{written}
+use Rattle.net.proofs.NetLaws.{normal-sent}
 use Rattle.net.proofs.ReadLaws.{area-three, area-four, process-in, process-first}
 use Rattle.frame.specs.declared.Decoded.{Decoded}
 use Rattle.frame.specs.Address.{decodedOf}
@@ -25,7 +26,7 @@ use Rattle.broadcast.specs.declared.Command.{Command}
 use Rattle.broadcast.specs.Broadcast.{isVoid, controlAfter}
 use Rattle.slave.specs.declared.Answer.the-variants.{Taken}
 use Rattle.slave.specs.declared.Refusal.the-variants.{OtherNode, OtherLength, VoidBroadcast}
-use Rattle.slave.specs.Slave.{firstWord, commandAt, refusedServed, refusedOf, written, replyOf, normalOutcome, normalCase, broadcastCase, executeDecoded, executeOf, callOpened, callOf}
+use Rattle.slave.specs.Slave.{firstWord, commandAt, refusedServed, refusedOf, replyOf, normalOutcome, normalCase, broadcastCase, executeDecoded, executeOf, callOpened, callOf, voidIn}
 
 -- ---- what is read of a telegram that has the set-up's words
 
@@ -68,12 +69,12 @@ unfolding isVoid
 not-void c pkw pzd f e z = false≢true (sym e ∙ rw z)
 
 module _ (n : ℕ) (s : Setup) (control : Words) (rx : List ℕ) where
-  pub broadcast-void : n ≡ netBytes s → isVoid (commandAt rx (s .pkw)) (s .pkw) (s .pzd) (firstWord s rx) ≡ true
+  pub broadcast-void : n ≡ netBytes s → voidIn s rx ≡ true
       → broadcastCase n s control rx ≡ refusedServed VoidBroadcast control
   unfolding broadcastCase
   broadcast-void e v = rw (eq-eqb _ _ e, v)
 
-  pub broadcast-taken : n ≡ netBytes s → isVoid (commandAt rx (s .pkw)) (s .pkw) (s .pzd) (firstWord s rx) ≡ false
+  pub broadcast-taken : n ≡ netBytes s → voidIn s rx ≡ false
       → broadcastCase n s control rx
       ≡ record { answer = Taken; length = 0; control = controlAfter (commandAt rx (s .pkw)) control (processAt rx (s .pkw) (s .pzd) control) }
   unfolding broadcastCase
@@ -100,7 +101,7 @@ pub reply-sent : (s : Setup) (a : Area) (status : Words) (out : List ℕ) → Co
     × (normalOf out (s .node) a (s .pkw) status (s .pzd) ≡ written out (replyOf s a status))
 unfolding replyOf
 reply-sent s a status out c room =
-    telegram-sent a (s .pkw) status (s .pzd) (c .process) out (s .node) room (omega (arith, c .some)) (area-few s c)
+    normal-sent a (s .pkw) status (s .pzd) (c .process) out (s .node) room (omega (arith, c .some)) (area-few s c)
 
 -- ---- the call
 

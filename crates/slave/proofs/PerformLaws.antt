@@ -25,7 +25,7 @@ use Rattle.task.specs.declared.Verdict.the-variants.{Granted, Denied}
 use Rattle.task.specs.Page.{baseOf, fullNumber}
 use Rattle.task.specs.Verdict.{changesAct, lacksElement, verdictOf, elementOf}
 use Rattle.task.proofs.VerdictLaws.{granted-clear}
-use Rattle.slave.specs.Perform.{readReply, carried, errorArea, emptyArea, doneOf, verdictFor, performOn, performFound, performTask, foundOf, idle}
+use Rattle.slave.specs.Perform.{readReply, carried, errorArea, nothingDone, doneOf, verdictFor, performOn, performFound, performTask, foundOf, idle}
 
 pub read-reply-le : (reply : ℕ) (double : Bool) → reply ≤ 14 → readReply reply double ≤ 15
 read-reply-le reply true h = omega arith
@@ -98,7 +98,7 @@ module _ (n : ℕ) (k : Task) (a : Area) (e : Entry) (vs : List ℕ) (first : �
       omega (arith, granted-element (k .act) (k .width) (k .array) (e .elements) (e .double) (e .writable) (isWithin e (carried (k .width) (a .value))) (a .ind % 256) n h)
 
 module _ (n : ℕ) (k : Task) (t vs : List ℕ) (a : Area) where
-  pub task-idle : idle (k .act) ≡ true → performTask n k t vs a ≡ record { area = emptyArea; values = vs }
+  pub task-idle : idle (k .act) ≡ true → performTask n k t vs a ≡ nothingDone vs
   task-idle i = rw i
 
   pub task-unnamed : idle (k .act) ≡ false → 2000 ≤ baseOf (a .pke) → performTask n k t vs a ≡ record { area = errorArea a NoParameter; values = vs }

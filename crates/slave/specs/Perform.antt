@@ -8,6 +8,7 @@ use mathlib.Core.List.{List}
 use lib.Dec.{eqb}
 use lib.ListN.{getD, set}
 use Rattle.net.specs.declared.Area.{Area}
+use Rattle.net.specs.Read.{emptyArea}
 use Rattle.entry.specs.declared.Entry.{Entry}
 use Rattle.entry.specs.Limits.{isWithin}
 use Rattle.table.specs.declared.Found.{Found}
@@ -35,10 +36,6 @@ replyArea a id v = record { pke = id * 4096 + baseOf (a .pke); ind = a .ind / 40
 abbrev pub errorArea : Area → ParameterError → Area
 errorArea a error = replyArea a 7 (errorNumber error)
 
--- the whole area 0
-abbrev pub emptyArea : Area
-emptyArea = record { pke = 0; ind = 0; value = 0 }
-
 -- ---- what is done
 
 pub record Performed : Type 0 where
@@ -49,6 +46,10 @@ pub record Performed : Type 0 where
 pub record Performs (p : Performed) (a : Area) (vs : List ℕ) : Type 0 where
   pub area-is : a ≡ p .area
   pub values-are : vs ≡ p .values
+
+-- nothing is done, and the whole area is 0
+abbrev pub nothingDone : List ℕ → Performed
+nothingDone vs = record { area = emptyArea; values = vs }
 
 -- a word task carries a word: PWE1 of a four-word area is ignored
 abbrev pub carried : Width → ℕ → ℕ
@@ -66,7 +67,7 @@ elementCount elements = cond (eqb elements 0) 1 elements
 
 -- what an act does where no error applies: v is the value that the task carries, `place` the place that it means
 abbrev pub doneOf : Act → ℕ → Area → Bool → ℕ → ℕ → List ℕ → ℕ → Performed
-doneOf Idle reply a double elements v vs place = record { area = emptyArea; values = vs }
+doneOf Idle reply a double elements v vs place = nothingDone vs
 doneOf Read reply a double elements v vs place = record { area = replyArea a (readReply reply double) (getD vs place 0); values = vs }
 doneOf Change reply a double elements v vs place = record { area = replyArea a reply v; values = set vs place v }
 doneOf Count reply a double elements v vs place = record { area = replyArea a reply (elementCount elements); values = vs }
@@ -106,7 +107,7 @@ idle Refuse = false
 
 -- task 0 does nothing, and no error is looked for
 abbrev pub performTask : ℕ → Task → List ℕ → List ℕ → Area → Performed
-performTask n k t vs a = cond (idle (k .act)) (record { area = emptyArea; values = vs }) (performFound n k a t vs (foundOf t a))
+performTask n k t vs a = cond (idle (k .act)) (nothingDone vs) (performFound n k a t vs (foundOf t a))
 
 unfoldable pub performOf : ℕ → List ℕ → List ℕ → Area → Performed
 performOf n t vs a = performTask n (taskOf (a .pke / 4096)) t vs a

@@ -122,11 +122,7 @@ fn run_act(
     ensures { λ r. ⌜ Performs (doneOf act reply area double elements value (now (values .entry)) place) r (now (values .exit)) ⌝ }
 {
     match act {
-        Act::Nothing => Area {
-            pke: 0,
-            ind: 0,
-            value: 0,
-        },
+        Act::Nothing => net::empty_area(),
         Act::Read => {
             let value = values[place];
             reply_area(area, pick_reply_id(reply, double), value)
@@ -248,11 +244,7 @@ fn perform(n: u8, table: &[u8], values: &mut [u32], area: Area) -> Area
     let task = task::task_of(id);
     let act = task.act;
     if is_idle(act) {
-        return Area {
-            pke: 0,
-            ind: 0,
-            value: 0,
-        };
+        return net::empty_area();
     }
     if 2000 <= area.pke % 2048 {
         return error_area(area, ParameterError::NoParameter);
@@ -274,11 +266,7 @@ fn run_task(n: u8, table: &[u8], values: &mut [u32], received: &[u8]) -> Area
     ensures { λ r. ⌜ Performs (taskDone n (now (table .entry)) (now (values .entry)) (now (received .entry))) r (now (values .exit)) ⌝ }
 {
     if n == 0 {
-        return Area {
-            pke: 0,
-            ind: 0,
-            value: 0,
-        };
+        return net::empty_area();
     }
     let area = net::read_area(received, n);
     perform(n, table, values, area)

@@ -4,8 +4,8 @@ use mathlib.Core.Logic.{_⊎_, inl, inr}
 use mathlib.Core.List.{List, [], _∷_}
 use mathlib.Core.Bool.{Bool, true, false, not, _&&_}
 use Prim.Native.Nat.{ℕ}
-use Rattle.rows.specs.Rows.{firstOf}
-use Rattle.rows.proofs.RowsLaws.{Chosen, chosen-first, EachRow, row-passed}
+use Rattle.rows.specs.Rows.{firstOf, Chosen, Each}
+use Rattle.rows.proofs.RowsLaws.{chosen-first, row-passed}
 use Rattle.task.specs.declared.Act.{Act}
 use Rattle.task.specs.declared.Width.{Width}
 use Rattle.task.specs.declared.Verdict.{Verdict}
@@ -22,21 +22,17 @@ Among b [] = ⊥
 Among b (row ∷ rows) = (b ≡ row .0) ⊎ Among b rows
 
 -- where every row denies and the task is granted, no test holds
-none-holds : (rows : List (Bool × Verdict)) → EachRow (λ (v : Verdict). isGranted v ≡ false) rows → isGranted (firstOf rows Granted) ≡ true → (b : Bool) → Among b rows → b ≡ false
+none-holds : (rows : List (Bool × Verdict)) → Each (λ (row : Bool × Verdict). isGranted (row .1) ≡ false) rows → isGranted (firstOf rows Granted) ≡ true → (b : Bool) → Among b rows → b ≡ false
 unfolding Among
 none-holds [] d e b m = absurd m
 none-holds (row ∷ rows) d e b (inl h) = h ∙ row-passed isGranted (row .0) (row .1) (firstOf rows Granted) (d .0) e .0
 none-holds (row ∷ rows) d e b (inr m) =
     none-holds rows (d .1) (row-passed isGranted (row .0) (row .1) (firstOf rows Granted) (d .0) e .1) b m
 
--- none of the rows applies
+-- what the slave asks of the rows: none of these applies
 pub record NoError (act : Act) (width : Width) (array : Bool) (elements : ℕ) (double writable inside : Bool) (index n : ℕ) : Type 0 where
-  pub act-known : refusesAct act ≡ false
-  pub array-there : lacksArray array elements index ≡ false
   pub element-there : lacksElement array elements index ≡ false
-  pub width-same : (changesAct act && differsWidth width double) ≡ false
   pub room-there : lacksRoom double n (countsAct act) ≡ false
-  pub write-allowed : (changesAct act && not writable) ≡ false
   pub value-inside : (changesAct act && not inside) ≡ false
 
 module _ (act : Act) (width : Width) (array : Bool) (elements : ℕ) (double writable inside : Bool) (index n : ℕ) where
@@ -49,11 +45,7 @@ module _ (act : Act) (width : Width) (array : Bool) (elements : ℕ) (double wri
   granted-clear e =
       let none = none-holds (verdictRows act width array elements double writable inside index n) (refl, (refl, (refl, (refl, (refl, (refl, (refl, tt))))))) (ap isGranted e) in
       record {
-        act-known = none _ (search (inl, inr, refl) depth 9 fits 2000);
-        array-there = none _ (search (inl, inr, refl) depth 9 fits 2000);
         element-there = none _ (search (inl, inr, refl) depth 9 fits 2000);
-        width-same = none _ (search (inl, inr, refl) depth 9 fits 2000);
         room-there = none _ (search (inl, inr, refl) depth 9 fits 2000);
-        write-allowed = none _ (search (inl, inr, refl) depth 9 fits 2000);
         value-inside = none _ (search (inl, inr, refl) depth 9 fits 2000);
       }

@@ -5,7 +5,8 @@ use Prim.Native.Nat.{ℕ, _+_, _-_, _*_, _/_, _%_, _≤_, _<_}
 use native.Mathlib.Omega.{arith}
 use lib.ListN.{length, getD, length-append}
 use Rattle.text.specs.Digits.{digits}
-use Rattle.text.specs.Decimal.{valueFrom, valueOf, Each, IsDigit, Decimal}
+use Rattle.rows.specs.Rows.{Each}
+use Rattle.text.specs.Decimal.{valueFrom, valueOf, IsDigit, Decimal}
 use Rattle.text.proofs.DigitsLaws.{digits-small, digits-more, by-tenths}
 
 -- ---- a list and its last element

@@ -6,6 +6,7 @@ use Prim.Native.Nat.{ℕ, _+_, _-_, _*_, _≤_}
 use mathlib.Core.Path.{_≡_}
 use mathlib.Core.List.{List, [], _∷_}
 use lib.ListN.{length, getD}
+use Rattle.rows.specs.Rows.{Each}
 
 -- the digits xs behind a number that is already read
 abbrev pub valueFrom : ℕ → List ℕ → ℕ
@@ -14,11 +15,6 @@ valueFrom n (x ∷ xs) = valueFrom (n * 10 + (x - 48)) xs
 
 abbrev pub valueOf : List ℕ → ℕ
 valueOf xs = valueFrom 0 xs
-
--- P holds of each
-abbrev pub Each : (ℕ → Type 0) → List ℕ → Type 0
-Each P [] = Unit {0}
-Each P (x ∷ xs) = P x × Each P xs
 
 -- the codes of `0` to `9`
 abbrev pub IsDigit : ℕ → Type 0

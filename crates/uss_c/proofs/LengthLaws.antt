@@ -4,15 +4,14 @@ use mathlib.Core.Bool.{Bool, true, false, not, cond}
 use mathlib.Core.List.{List, [], _∷_, _++_}
 use Prim.Native.Nat.{ℕ, _+_, _-_, _≤_}
 use native.Mathlib.Omega.{arith}
-use lib.Dec.{lit≤, leb, ltb, eqb}
+use lib.Dec.{lit≤, leb, eqb}
 use lib.ListN.{length, take, drop, length-take}
-use Rattle.rows.specs.Rows.{firstOf}
 use Rattle.rows.proofs.RowsLaws.{first-all}
 use Rattle.words.specs.Words.{Bytes}
 use Rattle.words.specs.declared.Words.{Words}
 use Rattle.words.proofs.WordsLaws.{bytes-take}
 use Rattle.setup.specs.declared.Setup.{Setup}
-use Rattle.setup.specs.SetupRules.{setupOk, netBytes}
+use Rattle.setup.specs.SetupRules.{netBytes}
 use Rattle.setup.proofs.SetupLaws.{Configured, ok-configured, area-few}
 use Rattle.frame.specs.Address.{decodedOf}
 use Rattle.frame.specs.declared.Decoded.{Decoded}
@@ -20,26 +19,25 @@ use Rattle.frame.specs.declared.Decoded.the-variants.{Normal, Mirror, Broadcast
 use Rattle.frame.proofs.DecodedLaws.{telegram-framed}
 use Rattle.net.specs.declared.Area.{Area}
 use Rattle.net.specs.Net.{netOf}
-use Rattle.net.specs.Telegram.{telegramOf}
-use Rattle.net.specs.Read.{processAt}
+use Rattle.net.specs.Telegram.{telegramOf, written}
 use Rattle.net.proofs.SealLaws.{length-telegram}
-use Rattle.net.proofs.NetLaws.{length-net}
+use Rattle.net.proofs.NetLaws.{length-normal}
 use Rattle.opening.specs.declared.Opening.{Opening}
 use Rattle.opening.specs.declared.Opening.the-variants.{Passed, Refused as Closed}
 use Rattle.opening.specs.Answers.{openingOf}
 use Rattle.opening.proofs.AnswersLaws.{passed-opened}
-use Rattle.broadcast.specs.Broadcast.{isVoid, controlAfter}
 use Rattle.slave.specs.declared.Served.{Served}
-use Rattle.slave.specs.declared.Answer.the-variants.{Mirrored, Taken}
 use Rattle.slave.specs.declared.Refusal.the-variants.{OtherNode, OtherLength, VoidBroadcast}
-use Rattle.slave.specs.Slave.{Outcome, MirrorSent, refusedServed, refusedOf, written, firstWord, commandAt, taskDone, replyOf, normalOutcome, normalCase, mirrorCase, broadcastCase, executeDecoded, callOpened, callOf}
+use Rattle.slave.specs.Slave.{Outcome, MirrorSent, refusedServed, refusedOf, voidIn, taskDone, replyOf, normalOutcome, normalCase, mirrorServed, mirrorCase, takenServed, broadcastCase, executeDecoded, callOpened, callOf}
 use Rattle.slave.proofs.CaseLaws.{executed}
 use Rattle.request.specs.declared.Request.{Request}
 use Rattle.request.specs.declared.Request.the-variants.{Task, Mirror as MirrorOf, Broadcast as BroadcastOf}
 use Rattle.request.specs.Request.{expressible}
 use Rattle.request.proofs.RequestLaws.{mirror-asked}
-use Rattle.master.specs.declared.BuildFault.the-variants.{BadSetup, NotExpressible, ShortBuffer}
-use Rattle.master.specs.Build.{taskArea, commandArea, telegramFor, unbuilt, sent, builtOf}
+use Rattle.master.specs.declared.BuildAnswer.{BuildAnswer}
+use Rattle.master.specs.declared.BuildAnswer.the-variants.{Done, Refused}
+use Rattle.master.specs.Build.{taskArea, commandArea, telegramFor, outcomeOf, admitted, builtOf}
+use Rattle.master.proofs.BuildLaws.{done-admitted}
 use Rattle.store.specs.Placed.{Placed, putOut}
 use Rattle.listing.specs.Listing.{listing, listedOf}
 use Rattle.listing.proofs.LengthLaws.{listing-most}
@@ -47,7 +45,7 @@ use Rattle.listing.proofs.LengthLaws.{listing-most}
 -- a telegram of a set-up that may be used
 pub telegram-most : (s : Setup) (adr : ℕ) (a : Area) (w : Words) → Configured s → length (telegramOf adr (netOf a (s .pkw) w (s .pzd))) ≤ 256
 telegram-most s adr a w c =
-    omega (arith, length-telegram adr (netOf a (s .pkw) w (s .pzd)), length-net a (s .pkw) w (s .pzd) (c .process), area-few s c, c .process)
+    omega (arith, length-normal a (s .pkw) w (s .pzd) (c .process) adr, area-few s c, c .process)
 
 -- ---- the slave
 
@@ -64,7 +62,7 @@ unfolding mirrorCase
 mirror-most node s control rx out h =
     first-all (λ (o : MirrorSent). o .served .length ≤ 256)
     ((not (eqb node (s .node)), record { served = refusedServed OtherNode control; reply = out }) ∷ [])
-    (record { served = record { answer = Mirrored; length = length rx; control = control }; reply = written out rx })
+    (record { served = mirrorServed control rx; reply = written out rx })
     (lit≤ tt, tt) h
 
 broadcast-most : (n : ℕ) (s : Setup) (control : Words) (rx : List ℕ) → broadcastCase n s control rx .length ≤ 256
@@ -72,9 +70,9 @@ unfolding broadcastCase
 broadcast-most n s control rx =
     first-all (λ (o : Served). o .length ≤ 256)
     ((not (eqb n (netBytes s)), refusedServed OtherLength control)
-    ∷ (isVoid (commandAt rx (s .pkw)) (s .pkw) (s .pzd) (firstWord s rx), refusedServed VoidBroadcast control)
+    ∷ (voidIn s rx, refusedServed VoidBroadcast control)
     ∷ [])
-    (record { answer = Taken; length = 0; control = controlAfter (commandAt rx (s .pkw)) control (processAt rx (s .pkw) (s .pzd) control) })
+    (takenServed s control rx)
     (lit≤ tt, (lit≤ tt, tt)) (lit≤ tt)
 
 module _ (s : Setup) (t vs : List ℕ) (control status : Words) (rx out : List ℕ) where
@@ -106,14 +104,13 @@ request-most s (BroadcastOf selector mask1 mask2 process) net c e = telegram-mos
 
 pub built-most : (s : Setup) (r : Request) (net out : List ℕ) → builtOf s r net out .built .length ≤ 256
 unfolding builtOf
-built-most s r net out = go (setupOk s) (expressible s r net) (ltb (length out) 256) refl refl
+built-most s r net out = go (admitted s (expressible s r net) (length out)) refl
   where
-    go : (a b c : Bool) → setupOk s ≡ a → expressible s r net ≡ b
-        → firstOf ((not a, unbuilt BadSetup out) ∷ (not b, unbuilt NotExpressible out) ∷ (c, unbuilt ShortBuffer out) ∷ []) (sent (telegramFor s r net) out) .built .length ≤ 256
-    go false b c e f = lit≤ tt
-    go true false c e f = lit≤ tt
-    go true true true e f = lit≤ tt
-    go true true false e f = request-most s r net (ok-configured s e) f
+    go : (a : BuildAnswer) → admitted s (expressible s r net) (length out) ≡ a → outcomeOf a (telegramFor s r net) out .built .length ≤ 256
+    go Done e =
+        let p = done-admitted s (expressible s r net) (length out) e in
+        request-most s r net (ok-configured s (p .setup-good)) (p .asked)
+    go (Refused fault) e = lit≤ tt
 
 -- ---- the listing
 

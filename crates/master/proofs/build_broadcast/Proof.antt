@@ -2,7 +2,7 @@
 use mathlib.Core.List.{[]}
 use Rattle.request.specs.declared.Request.the-variants.{Broadcast}
 use Rattle.master.specs.Build.{telegramFor}
-use Rattle.master.proofs.BuildLaws.{Tested, by-tests, tested-buildable, builds-sent, builds-none}
+use Rattle.master.proofs.BuildLaws.{Tested, by-tests, tested-admitted, builds-sent, builds-none}
 use borrow.Author.Needs.{needs}
 use Rattle.master.proofs.build_broadcast.Statement.{statement}
 use Rattle.master.proofs.build_broadcast.Tie as tie
@@ -29,8 +29,8 @@ enum-told c = search needs
 
 write-broadcast-requires : tie.Need-write-broadcast-requires
 write-broadcast-requires c κs =
-    let b = tested-buildable (answered (c .before .before .before)) (c .before .enum-told .given .1) in
-    (b .setup-good, b .room)
+    let b = tested-admitted (answered (c .before .before .before)) (c .before .enum-told .given .1) in
+    (b .setup-good, b .enough)
 
 enum-known-answer : tie.Need-enum-known-answer
 enum-known-answer c = search needs

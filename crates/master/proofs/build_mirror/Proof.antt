@@ -4,7 +4,7 @@ use Rattle.setup.proofs.SetupLaws.{ok-configured}
 use Rattle.request.proofs.RequestLaws.{mirror-asked}
 use Rattle.request.specs.declared.Request.the-variants.{Mirror}
 use Rattle.master.specs.Build.{telegramFor}
-use Rattle.master.proofs.BuildLaws.{Tested, by-tests, tested-buildable, builds-sent, builds-none}
+use Rattle.master.proofs.BuildLaws.{Tested, by-tests, tested-admitted, builds-sent, builds-none}
 use borrow.Author.Needs.{needs}
 use Rattle.master.proofs.build_mirror.Statement.{statement}
 use Rattle.master.proofs.build_mirror.Tie as tie
@@ -30,9 +30,9 @@ write-mirror-requires : tie.Need-write-mirror-requires
 write-mirror-requires c κs =
     let t = c .before .before .before in
     let a = t .before .before .before .before .args in
-    let b = tested-buildable (answered t) (c .before .enum-told .given .1) in
+    let b = tested-admitted (answered t) (c .before .enum-told .given .1) in
     let n = mirror-asked (a .setup) (a .net .now) (b .asked) in
-    (omega (arith, ok-configured (a .setup) (b .setup-good) .nodes), b .room, n .0, n .1)
+    (omega (arith, ok-configured (a .setup) (b .setup-good) .nodes), b .enough, n .0, n .1)
 
 enum-known-answer : tie.Need-enum-known-answer
 enum-known-answer c = search needs

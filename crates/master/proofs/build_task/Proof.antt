@@ -5,7 +5,7 @@ use Rattle.request.proofs.RequestLaws.{task-id}
 use Rattle.request.specs.declared.Request.the-variants.{Task}
 use Rattle.request.specs.Request.{expressible}
 use Rattle.master.specs.Build.{telegramFor}
-use Rattle.master.proofs.BuildLaws.{Tested, by-tests, tested-buildable, builds-sent, builds-none}
+use Rattle.master.proofs.BuildLaws.{Tested, by-tests, tested-admitted, builds-sent, builds-none}
 use borrow.Author.Needs.{needs}
 use Rattle.master.proofs.build_task.Statement.{statement}
 use Rattle.master.proofs.build_task.Tie as tie
@@ -32,8 +32,8 @@ write-task-requires : tie.Need-write-task-requires
 write-task-requires c κs =
     let t = c .before .before .before in
     let a = t .before .before .before .args in
-    let b = tested-buildable (answered t) (c .before .enum-told .given .1) in
-    (b .setup-good, b .room, omega (arith, task-id (a .setup) (a .id) (a .number) (a .index) (a .value) (a .process) [] (b .asked)))
+    let b = tested-admitted (answered t) (c .before .enum-told .given .1) in
+    (b .setup-good, b .enough, omega (arith, task-id (a .setup) (a .id) (a .number) (a .index) (a .value) (a .process) [] (b .asked)))
 
 enum-known-answer : tie.Need-enum-known-answer
 enum-known-answer c = search needs

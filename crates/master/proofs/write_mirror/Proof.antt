@@ -1,13 +1,9 @@
 -- `master::write_mirror` meets its contract. Assumes nothing.
-use mathlib.Core.Path.{sym, ap, _∙_}
-use mathlib.Core.List.{_++_}
-use Prim.Native.Nat.{ℕ, _+_}
+use mathlib.Core.Path.{ap, _∙_}
+use Prim.Native.Nat.{_+_}
 use native.Mathlib.Omega.{arith}
-use lib.ListN.{drop}
 use Rattle.store.specs.Placed.{Placed}
 use Rattle.store.proofs.StoreLaws.{put-fits}
-use Rattle.net.specs.Telegram.{telegramOf}
-use Rattle.net.proofs.SealLaws.{length-telegram}
 use Rattle.net.proofs.NetLaws.{net-sealed}
 use borrow.Author.Needs.{needs}
 use Rattle.master.proofs.write_mirror.Statement.{statement}
@@ -38,11 +34,7 @@ returns c =
     let net = a .net .now in
     let fit = put-fits (a .out .now) 3 net (omega arith) in
     let m = net-sealed (a .out .now) (a .node + 64) net (s .pre .1) (s .pre .3) (q .put .ensures .1 ∙ ap (λ (x : Placed). x .bytes) fit) (s .pre .2) in
-    let n = length-telegram (a .node + 64) net in
-    record {
-      long = l .seal .ensures .0 ∙ m .0 ∙ sym n;
-      there = l .seal .ensures .1 ∙ m .1 ∙ ap (λ (k : ℕ). telegramOf (a .node + 64) net ++ drop k (a .out .now)) (sym n);
-    }
+    record { long = l .seal .ensures .0 ∙ m .0; there = l .seal .ensures .1 ∙ m .1 }
 
 pub write-mirror-spec : {M : Type 1} → statement M
 write-mirror-spec = tie.close (tie.spec put-requires add-seal seal-requires same-length returns)

@@ -3,7 +3,7 @@ use mathlib.Core.Path.{_∙_}
 use Prim.Native.Nat.{_+_, _*_, _%_}
 use native.Mathlib.Omega.{arith}
 use Rattle.net.specs.declared.Area.{Area}
-use Rattle.net.proofs.NetLaws.{telegram-sent}
+use Rattle.net.proofs.NetLaws.{normal-sent}
 use Rattle.setup.proofs.SetupLaws.{ok-configured, area-few}
 use Rattle.task.proofs.PageLaws.{nibble-small}
 use Rattle.master.specs.Build.{taskArea}
@@ -48,7 +48,7 @@ returns c =
     let a = s .args in
     let f = ok-configured (a .setup) (s .pre .0) in
     let area : Area = record { pke = a .id * 4096 + a .number % 2000; ind = n .nibble-of .result * 4096 + a .index; value = a .value } in
-    let m = telegram-sent area (a .setup .pkw) (a .process) (a .setup .pzd) (f .process) (a .out .now) (a .setup .node) (s .pre .1) (omega (arith, f .some)) (area-few (a .setup) f) in
+    let m = normal-sent area (a .setup .pkw) (a .process) (a .setup .pzd) (f .process) (a .out .now) (a .setup .node) (s .pre .1) (omega (arith, f .some)) (area-few (a .setup) f) in
     rw (← (n .nibble-of .ensures)) (record { long = w .write-normal .ensures .0 ∙ m .0; there = w .write-normal .ensures .1 ∙ m .1 })
 
 pub write-task-spec : {M : Type 1} → statement M

@@ -3,13 +3,12 @@ use native.Mathlib.Omega.{arith}
 use Prim.Native.Nat.{ℕ, _+_, _*_, _/_, _%_, _≤_, _<_}
 use lib.Bits.{bitXor, xor-lt}
 use lib.ListN.{length, take, drop}
-use mathlib.Core.List.{_++_}
 use mathlib.Core.Path.{_≡_, _∙_, sym, ap}
 use Rattle.frame.specs.Bcc.{xorAll}
-use Rattle.net.specs.Telegram.{telegramOf}
+use Rattle.net.specs.Telegram.{telegramOf, written}
 use Rattle.rows.proofs.RowsLaws.{tests}
 use Rattle.net.specs.Net.{netOf, normalOf, normalLength}
-use Rattle.net.proofs.NetLaws.{length-net, areas-written, areas-mixed, normal-sent}
+use Rattle.net.proofs.NetLaws.{length-normal, areas-written, areas-mixed, normal-sent}
 use borrow.Author.Needs.{needs}
 use Rattle.net.proofs.write_normal.Statement.{statement}
 use Rattle.net.proofs.write_normal.Tie as tie
@@ -59,8 +58,8 @@ put-words-requires c κs = search needs
 -- both areas stand in the buffer
 kept : (c : tie.After-put-words) → (let a = c .before .before .before .before .before .before .before .before .before .before .before .args in
     (256 ≤ length (c .put-words .last .0)) × (take (a .n * 2 + a .pzd * 2) (drop 3 (c .put-words .last .0)) ≡ netOf (a .area) (a .n) (a .process) (a .pzd))
-    × (telegramOf (a .adr) (take (a .n * 2 + a .pzd * 2) (drop 3 (c .put-words .last .0))) ++ drop (a .n * 2 + a .pzd * 2 + 4) (c .put-words .last .0)
-    ≡ telegramOf (a .adr) (netOf (a .area) (a .n) (a .process) (a .pzd)) ++ drop (length (netOf (a .area) (a .n) (a .process) (a .pzd)) + 4) (a .out .now)))
+    × (written (c .put-words .last .0) (telegramOf (a .adr) (take (a .n * 2 + a .pzd * 2) (drop 3 (c .put-words .last .0))))
+    ≡ written (a .out .now) (telegramOf (a .adr) (netOf (a .area) (a .n) (a .process) (a .pzd)))))
 kept c =
     let q = c .before .before .before .before in
     let t = q .before .before in
@@ -98,7 +97,7 @@ returns-5 c =
     let t = p .before .before .before .before .before .before in
     let a = t .before .before .before .before .before .args in
     let m = normal-sent (a .area) (a .n) (a .process) (a .pzd) (few t) (a .out .now) (a .adr) (t .if4 .left) (omega arith) (short t) in
-    (d .close .ensures .0 ∙ ap (λ (x : ℕ). x + 4) (sym (length-net (a .area) (a .n) (a .process) (a .pzd) (few t))) ∙ sym (m .0), d .close .ensures .1 ∙ kept p .2 ∙ sym (m .1))
+    (omega (arith, d .close .ensures .0, m .0, length-normal (a .area) (a .n) (a .process) (a .pzd) (few t) (a .adr)), d .close .ensures .1 ∙ kept p .2 ∙ sym (m .1))
 
 pub write-normal-spec : {M : Type 1} → statement M
 write-normal-spec =

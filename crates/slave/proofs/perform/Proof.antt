@@ -15,6 +15,7 @@ use Rattle.slave.proofs.perform.Statement.{statement}
 use Rattle.slave.proofs.perform.Tie as tie
 use Rattle.slave.proofs.perform.Reads as reads
 use Rattle.slave.proofs.perform.Lts as lts
+use Rattle.net.proofs.empty_area.Reads as empty-area-reads
 use Rattle.slave.proofs.first_place.Reads as first-place-reads
 use Rattle.slave.proofs.is_idle.Reads as is-idle-reads
 use Rattle.slave.proofs.perform_on.Reads as perform-on-reads
@@ -45,12 +46,16 @@ task-of-requires c κs = search needs
 is-idle-requires : tie.Need-is-idle-requires
 is-idle-requires c κs = search needs
 
+empty-area-requires : tie.Need-empty-area-requires
+empty-area-requires c κs = search needs
+
 returns : tie.Need-returns
 returns c =
-    let d = c .before .before in
+    let i = c .before in
+    let d = i .before .before in
     let a = d .before .before .before .before .args in
-    rw (perform-is d ∙ task-idle (a .n) (d .task-of .result) (a .table .now) (a .values .now) (a .area) (sym (c .before .is-idle .ensures) ∙ c .if1 .taken))
-    (record { area-is = refl; values-are = refl })
+    rw (perform-is d ∙ task-idle (a .n) (d .task-of .result) (a .table .now) (a .values .now) (a .area) (sym (i .before .is-idle .ensures) ∙ i .if1 .taken))
+    (record { area-is = c .empty-area .ensures; values-are = refl })
 
 error-area-requires : tie.Need-error-area-requires
 error-area-requires c κs = search needs
@@ -129,6 +134,7 @@ perform-spec =
     cast-id
     task-of-requires
     is-idle-requires
+    empty-area-requires
     returns
     error-area-requires
     returns-2

@@ -6,6 +6,7 @@ use Rattle.slave.proofs.run_act.Statement.{statement}
 use Rattle.slave.proofs.run_act.Tie as tie
 use Rattle.slave.proofs.run_act.Reads as reads
 use Rattle.slave.proofs.run_act.Lts as lts
+use Rattle.net.proofs.empty_area.Reads as empty-area-reads
 use Rattle.slave.proofs.count_elements.Reads as count-elements-reads
 use Rattle.slave.proofs.error_area.Reads as error-area-reads
 use Rattle.slave.proofs.pick_reply_id.Reads as pick-reply-id-reads
@@ -14,6 +15,9 @@ use Rattle.slave.proofs.store.Reads as store-reads
 
 enum-told : tie.Need-enum-told
 enum-told c = search needs
+
+empty-area-requires : tie.Need-empty-area-requires
+empty-area-requires c κs = search needs
 
 enum-told-2 : tie.Need-enum-told-2
 enum-told-2 c = search needs
@@ -57,7 +61,7 @@ error-area-requires : tie.Need-error-area-requires
 error-area-requires c κs = search needs
 
 returns : tie.Need-returns
-returns c = rw (c .enum-told .given .1) (record { area-is = refl; values-are = refl })
+returns c = rw (c .before .enum-told .given .1) (record { area-is = c .empty-area .ensures; values-are = refl })
 
 returns-2 : tie.Need-returns-2
 returns-2 c = rw (c .before .before .before .enum-told2 .given .1) (record { area-is = c .reply-area .ensures ∙ rw (c .before .pick-reply-id .ensures); values-are = refl })
@@ -79,6 +83,7 @@ run-act-spec =
     tie.close
     (tie.spec
     enum-told
+    empty-area-requires
     enum-told-2
     mul-value
     slice-read-value

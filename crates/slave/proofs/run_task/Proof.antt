@@ -8,12 +8,16 @@ use Rattle.slave.proofs.run_task.Statement.{statement}
 use Rattle.slave.proofs.run_task.Tie as tie
 use Rattle.slave.proofs.run_task.Reads as reads
 use Rattle.slave.proofs.run_task.Lts as lts
+use Rattle.net.proofs.empty_area.Reads as empty-area-reads
 use Rattle.net.proofs.read_area.Reads as read-area-reads
 use Rattle.slave.proofs.perform.Reads as perform-reads
 
+empty-area-requires : tie.Need-empty-area-requires
+empty-area-requires c κs = search needs
+
 returns : tie.Need-returns
 unfolding taskDone
-returns c = rw (c .if1 .taken) (record { area-is = refl; values-are = refl })
+returns c = rw (c .before .if1 .taken) (record { area-is = c .empty-area .ensures; values-are = refl })
 
 read-area-requires : tie.Need-read-area-requires
 read-area-requires c κs = search needs
@@ -36,4 +40,4 @@ returns-2 c =
 
 pub run-task-spec : {M : Type 1} → statement M
 run-task-spec =
-    tie.close (tie.spec returns read-area-requires perform-requires same-length returns-2)
+    tie.close (tie.spec empty-area-requires returns read-area-requires perform-requires same-length returns-2)

@@ -3,7 +3,7 @@ use mathlib.Core.Path.{_≡_, refl, sym, _∙_}
 use mathlib.Core.Bool.{false, not, _&&_}
 use mathlib.Core.List.{[], _∷_}
 use mathlib.Core.Logic.{inl, inr, ⊎-elim}
-use Rattle.rows.proofs.RowsLaws.{Chosen}
+use Rattle.rows.specs.Rows.{Chosen}
 use Rattle.task.specs.declared.ParameterError.the-variants.{NotWritable, OutsideLimits}
 use Rattle.task.specs.declared.Verdict.{Verdict}
 use Rattle.task.specs.declared.Verdict.the-variants.{Granted, Denied}
