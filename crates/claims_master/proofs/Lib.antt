@@ -11,3 +11,4 @@ pub mod AnswerLaws
 pub mod ReplyIsRead
 pub mod RoundTrip
 pub mod KnownRound
+pub mod AnswerTable

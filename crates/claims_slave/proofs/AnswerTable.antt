@@ -3,24 +3,21 @@
 --     answer-exactly    a number is given exactly when its line holds and no earlier one does
 --     exactly-answer    and the number so told is the answer's
 --     beyond-frame      with an opening check and a frame check that pass, the number is none of 10 to 14
---     top-is-bit-7      bit 7 of a byte, as it is tested here
-use Prim.Native.Nat.{ℕ, _-_, _/_, _%_, _<_}
+use Prim.Native.Nat.{ℕ, _-_, _%_}
 use mathlib.Core.Path.{_≡_, refl, sym, ap, subst, _∙_}
 use mathlib.Core.Logic.{inl, inr}
 use mathlib.Core.Bool.{Bool, true, false, not, _&&_, _||_, cond}
 use mathlib.Core.List.{List, [], _∷_}
 use native.Mathlib.Omega.{arith}
-use borrow.Author.Tests.{leb-true, leb-false, eq-eqb, ne-eqb}
-use lib.Dec.{leb, eqb, lit<}
+use lib.Dec.{eqb, lit<}
 use lib.ListN.{length}
 use Rattle.rows.specs.Rows.{firstOf, Chosen}
-use Rattle.rows.proofs.RowsLaws.{first-all, first-chosen, chosen-first, first-read}
-use Rattle.words.specs.Words.{byteAt}
+use Rattle.rows.proofs.RowsLaws.{first-all, first-chosen, chosen-first, readRows, first-read}
 use Rattle.words.specs.declared.Words.{Words}
 use Rattle.setup.specs.declared.Setup.{Setup}
 use Rattle.setup.specs.SetupRules.{netBytes}
 use Rattle.frame.specs.Frame.{lastOf, frameRows, frameOf}
-use Rattle.frame.specs.Address.{addressRows, addressOf, kindOf, decodedFrom}
+use Rattle.frame.specs.Address.{broadcastBit, mirrorBit, topBit, addressRows, addressOf, kindOf, decodedFrom, adrOf}
 use Rattle.frame.specs.declared.Address.{Address}
 use Rattle.frame.specs.declared.Address.the-variants.{ToOne}
 use Rattle.frame.specs.declared.FrameCheck.{FrameCheck}
@@ -37,7 +34,7 @@ use Rattle.slave.specs.declared.Served.{Served}
 use Rattle.slave.specs.Slave.{Outcome, MirrorSent, answerNumber, refusedServed, refusedOf, normalOutcome, normalCase, mirrorServed, mirrorCase, voidIn, takenServed, broadcastCase, executeDecoded, executeOf, callOpened, callOf}
 use Rattle.slave.proofs.CaseLaws.{executed, called}
 use Rattle.claims_slave.specs.Outcomes.{NotFrame, PastFrame}
-use Rattle.claims_slave.specs.AnswerTable.{broadcastBit, mirrorBit, topBit, answerRows, acceptedNumber}
+use Rattle.claims_slave.specs.AnswerTable.{answerRows, acceptedNumber}
 
 -- ---- the kinds
 
@@ -71,18 +68,18 @@ numberIn o = answerNumber (o .served .answer)
 
 module _ (s : Setup) (rx : List ℕ) where
   abbrev ownNode : Bool
-  ownNode = eqb (byteAt rx 2 % 32) (s .node)
+  ownNode = eqb (adrOf rx % 32) (s .node)
 
   abbrev ownLength : Bool
   ownLength = eqb (length rx - 4) (netBytes s)
 
   abbrev tableNumber : ℕ
-  tableNumber = byLine (topBit rx) (broadcastBit rx) (mirrorBit rx) ownNode ownLength (voidIn s rx)
+  tableNumber = byLine (topBit (adrOf rx)) (broadcastBit (adrOf rx)) (mirrorBit (adrOf rx)) ownNode ownLength (voidIn s rx)
 
   -- past the frame check
   table-beyond : NotFrame tableNumber
   table-beyond =
-      first-all NotFrame (lineRows (topBit rx) (broadcastBit rx) (mirrorBit rx) ownNode ownLength (voidIn s rx)) 0
+      first-all NotFrame (lineRows (topBit (adrOf rx)) (broadcastBit (adrOf rx)) (mirrorBit (adrOf rx)) ownNode ownLength (voidIn s rx)) 0
       (inr (lit< tt), (inr (lit< tt), (inr (lit< tt), (inr (lit< tt), (inl (lit< tt), (inl (lit< tt), tt))))))
       (inl (lit< tt))
 
@@ -118,24 +115,24 @@ module _ (s : Setup) (t vs : List ℕ) (control status : Words) (rx out : List �
   abbrev ofDecoded : Decoded → ℕ
   ofDecoded d = numberIn (executeDecoded d s t vs control status rx out)
 
-  sound-number : ofDecoded (kindOf (addressOf (byteAt rx 2)) (lastOf rx)) ≡ tableNumber s rx
+  sound-number : ofDecoded (kindOf (addressOf (adrOf rx)) (lastOf rx)) ≡ tableNumber s rx
   unfolding addressOf
   sound-number =
       let net : lastOf rx - 3 ≡ length rx - 4 = omega arith in
-      let normal = normal-number (byteAt rx 2 % 32) (lastOf rx - 3) in
-      first-read (λ (a : Address). ofDecoded (kindOf a (lastOf rx))) (addressRows (byteAt rx 2)) (ToOne (byteAt rx 2 % 32))
-      ∙ rw (normal, mirror-number (byteAt rx 2 % 32), broadcast-number, net)
-      (kinds (topBit rx) (broadcastBit rx) (mirrorBit rx) (ownNode s rx) (ownLength s rx) (voidIn s rx))
+      let normal = normal-number (adrOf rx % 32) (lastOf rx - 3) in
+      first-read (λ (a : Address). ofDecoded (kindOf a (lastOf rx))) (addressRows (adrOf rx)) (ToOne (adrOf rx % 32))
+      ∙ rw (normal, mirror-number (adrOf rx % 32), broadcast-number, net)
+      (kinds (topBit (adrOf rx)) (broadcastBit (adrOf rx)) (mirrorBit (adrOf rx)) (ownNode s rx) (ownLength s rx) (voidIn s rx))
 
   -- ---- the frame check
 
   abbrev frameNumbers : List (Bool × ℕ)
-  frameNumbers = readRows (λ (r : FrameCheck). ofDecoded (decodedFrom r (byteAt rx 2))) (frameRows rx)
+  frameNumbers = readRows (λ (r : FrameCheck). ofDecoded (decodedFrom r (adrOf rx))) (frameRows rx)
 
   frame-number : numberIn (executeOf s t vs control status rx out) ≡ firstOf frameNumbers (tableNumber s rx)
   unfolding executeOf frameOf
   frame-number =
-      first-read (λ (r : FrameCheck). ofDecoded (decodedFrom r (byteAt rx 2))) (frameRows rx) (Sound (lastOf rx))
+      first-read (λ (r : FrameCheck). ofDecoded (decodedFrom r (adrOf rx))) (frameRows rx) (Sound (lastOf rx))
       ∙ ap (λ (n : ℕ). firstOf frameNumbers n) sound-number
 
   -- ---- the opening check, and the whole
@@ -166,14 +163,5 @@ module _ (s : Setup) (t vs : List ℕ) (control status : Words) (rx out : List �
   pub beyond-frame : openingOf s t vs (length out) ≡ Passed → Framed rx → PastFrame (callOf s t vs control status rx out)
   beyond-frame p f =
       let o = called s t vs control status rx out Passed p
-      ∙ executed s t vs control status rx out (kindOf (addressOf (byteAt rx 2)) (lastOf rx)) (framed-decoded rx f) in
+      ∙ executed s t vs control status rx out (kindOf (addressOf (adrOf rx)) (lastOf rx)) (framed-decoded rx f) in
       subst NotFrame (sym (ap numberIn o ∙ sound-number)) (table-beyond s rx)
-
--- ---- bit 7
-
-pub top-is-bit-7 : (x : ℕ) → x < 256 → leb 128 x ≡ eqb (x / 128 % 2) 1
-top-is-bit-7 x h = go (leb 128 x) refl
-  where
-    go : (b : Bool) → leb 128 x ≡ b → leb 128 x ≡ eqb (x / 128 % 2) 1
-    go true e = let l = leb-true 128 x e in e ∙ sym (eq-eqb (x / 128 % 2) 1 (omega arith))
-    go false e = let l = leb-false 128 x e in e ∙ sym (ne-eqb (x / 128 % 2) 1 (λ q. omega arith))

@@ -1,29 +1,19 @@
 -- Document 01's table of answer numbers, line by line and in its order, over the inputs of a slave call.
---     broadcastBit rx, mirrorBit rx    bits 5 and 6 of the address byte
 --     answerRows s t vs room rx        the lines 20 to 23 and 10 to 18: test and number
 --     acceptedNumber rx                0, 1, 2 where none of them holds: replied, mirrored, broadcast taken
-use Prim.Native.Nat.{ℕ, _+_, _-_, _*_, _%_}
+use Prim.Native.Nat.{ℕ, _+_, _-_, _%_}
 use mathlib.Core.Bool.{Bool, not, _&&_, _||_, cond}
 use mathlib.Core.List.{List, [], _∷_}
-use lib.Dec.{ltb, leb, eqb}
+use lib.Dec.{ltb, eqb}
 use lib.ListN.{length, take}
-use Rattle.rows.specs.Bits.{bit}
 use Rattle.words.specs.Words.{byteAt}
 use Rattle.setup.specs.declared.Setup.{Setup}
-use Rattle.setup.specs.SetupRules.{setupOk}
+use Rattle.setup.specs.SetupRules.{setupOk, netBytes}
 use Rattle.frame.specs.Bcc.{xorAll}
+use Rattle.frame.specs.Frame.{lastOf}
+use Rattle.frame.specs.Address.{adrOf, broadcastBit, mirrorBit, topBit}
 use Rattle.opening.specs.Rules.{tableOk, valuesOk}
 use Rattle.slave.specs.Slave.{voidIn}
-
-abbrev pub broadcastBit : List ℕ → Bool
-broadcastBit rx = eqb (bit 5 (byteAt rx 2)) 1
-
-abbrev pub mirrorBit : List ℕ → Bool
-mirrorBit rx = eqb (bit 6 (byteAt rx 2)) 1
-
--- bit 7 of a byte: it is 128 or more
-abbrev pub topBit : List ℕ → Bool
-topBit rx = leb 128 (byteAt rx 2)
 
 abbrev pub answerRows : Setup → List ℕ → List ℕ → ℕ → List ℕ → List (Bool × ℕ)
 answerRows s t vs room rx =
@@ -44,16 +34,16 @@ answerRows s t vs room rx =
     -- byte count not LGE + 2
     ∷ (not (eqb (length rx) (byteAt rx 1 + 2)), 13)
     -- BCC wrong: the last byte is not the XOR of all before it
-    ∷ (not (eqb (byteAt rx (length rx - 1)) (xorAll (take (length rx - 1) rx))), 14)
+    ∷ (not (eqb (byteAt rx (lastOf rx)) (xorAll (take (lastOf rx) rx))), 14)
     -- bit 7, or bits 5 and 6 together
-    ∷ (topBit rx || broadcastBit rx && mirrorBit rx, 15)
+    ∷ (topBit (adrOf rx) || broadcastBit (adrOf rx) && mirrorBit (adrOf rx), 15)
     -- not broadcast, other node
-    ∷ (not (broadcastBit rx) && not (eqb (byteAt rx 2 % 32) (s .node)), 16)
+    ∷ (not (broadcastBit (adrOf rx)) && not (eqb (adrOf rx % 32) (s .node)), 16)
     -- not mirror, n not 2 × (PKW + PZD): n is all but 02, LGE, ADR, BCC
-    ∷ (not (mirrorBit rx) && not (eqb (length rx - 4) ((s .pkw + s .pzd) * 2)), 17)
+    ∷ (not (mirrorBit (adrOf rx)) && not (eqb (length rx - 4) (netBytes s)), 17)
     -- void broadcast
-    ∷ (broadcastBit rx && voidIn s rx, 18)
+    ∷ (broadcastBit (adrOf rx) && voidIn s rx, 18)
     ∷ []
 
 abbrev pub acceptedNumber : List ℕ → ℕ
-acceptedNumber rx = cond (broadcastBit rx) 2 (cond (mirrorBit rx) 1 0)
+acceptedNumber rx = cond (broadcastBit (adrOf rx)) 2 (cond (mirrorBit (adrOf rx)) 1 0)

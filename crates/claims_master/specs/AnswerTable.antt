@@ -1,0 +1,62 @@
+-- Document 01's answer numbers of the master, line by line and in its order.
+--     buildRows s r net room     a build: 30, 31, 32
+--     asksTask s r               a reply can be read to the request: it is a task that can be asked
+--     notTheReply s r rx         33: there is an area, and it is no reply to the task
+--     readingRows s r rx         a reading: 30, 31, 10 to 17, 33
+use Prim.Native.Nat.{ℕ, _+_, _-_, _%_}
+use mathlib.Core.Bool.{Bool, false, not, _&&_, _||_}
+use mathlib.Core.List.{List, [], _∷_}
+use lib.Dec.{ltb, eqb}
+use lib.ListN.{length, take}
+use Rattle.words.specs.Words.{byteAt}
+use Rattle.setup.specs.declared.Setup.{Setup}
+use Rattle.setup.specs.SetupRules.{setupOk, netBytes}
+use Rattle.frame.specs.Bcc.{xorAll}
+use Rattle.frame.specs.Frame.{lastOf}
+use Rattle.frame.specs.Address.{adrOf, broadcastBit, mirrorBit, topBit}
+use Rattle.net.specs.Read.{areaAt}
+use Rattle.request.specs.declared.Request.{Request}
+use Rattle.request.specs.declared.Request.the-variants.{Task, Mirror, Broadcast}
+use Rattle.request.specs.Request.{taskAskable, expressible}
+use Rattle.reply.specs.Reply.{badReply}
+
+abbrev pub buildRows : Setup → Request → List ℕ → ℕ → List (Bool × ℕ)
+buildRows s r net room =
+    -- set-up as 20
+    (not (setupOk s), 30)
+    -- request not expressible
+    ∷ (not (expressible s r net), 31)
+    -- buffer under 256
+    ∷ (ltb room 256, 32)
+    ∷ []
+
+abbrev pub asksTask : Setup → Request → Bool
+asksTask s (Task id number index value process) = taskAskable s id number index value process
+asksTask s Mirror = false
+asksTask s (Broadcast selector mask1 mask2 process) = false
+
+abbrev pub notTheReply : Setup → Request → List ℕ → Bool
+notTheReply s (Task id number index value process) rx = not (eqb (s .pkw) 0) && badReply (s .pkw) id number index (areaAt rx (s .pkw))
+notTheReply s Mirror rx = false
+notTheReply s (Broadcast selector mask1 mask2 process) rx = false
+
+abbrev pub readingRows : Setup → Request → List ℕ → List (Bool × ℕ)
+readingRows s r rx =
+    (not (setupOk s), 30)
+    -- also for a mirror or broadcast request
+    ∷ (not (asksTask s r), 31)
+    -- the lines 10 to 14 of the frame check
+    ∷ (ltb (length rx) 5, 10)
+    ∷ (not (eqb (byteAt rx 0) 2), 11)
+    ∷ (ltb (byteAt rx 1) 3 || ltb 254 (byteAt rx 1), 12)
+    ∷ (not (eqb (length rx) (byteAt rx 1 + 2)), 13)
+    ∷ (not (eqb (byteAt rx (lastOf rx)) (xorAll (take (lastOf rx) rx))), 14)
+    -- bit 7; also for bits 5 or 6
+    ∷ (topBit (adrOf rx) || (broadcastBit (adrOf rx) || mirrorBit (adrOf rx)), 15)
+    -- from another node
+    ∷ (not (eqb (adrOf rx % 32) (s .node)), 16)
+    -- n not 2 × (PKW + PZD): n is all but 02, LGE, ADR, BCC
+    ∷ (not (eqb (length rx - 4) (netBytes s)), 17)
+    -- not the reply to the task
+    ∷ (notTheReply s r rx, 33)
+    ∷ []
