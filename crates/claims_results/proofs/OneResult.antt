@@ -23,6 +23,7 @@ use Rattle.entry.proofs.entry_ok.Reads as entry-entry-ok
 use Rattle.table.proofs.record_of.Reads as table-record-of
 use Rattle.table.proofs.find.Reads as table-find
 use Rattle.opening.proofs.«open».Reads as opening-open
+use Rattle.net.proofs.empty_area.Reads as net-empty-area
 use Rattle.net.proofs.read_area.Reads as net-read-area
 use Rattle.net.proofs.read_process.Reads as net-read-process
 use Rattle.task.proofs.task_of.Reads as task-task-of
@@ -56,20 +57,14 @@ use Rattle.uss_c.proofs.uss_build_broadcast.Reads as uss-build-broadcast
 use Rattle.uss_c.proofs.uss_read_reply.Reads as uss-read-reply
 use Rattle.uss_c.proofs.uss_list.Reads as uss-list
 use Rattle.uss_c.proofs.uss_bcc.Reads as uss-bcc
-use Rattle.uss_c.proofs.SameLaws.{slave-same, build-same, reply-same}
+use Rattle.master.specs.Build.{BuildOutcome}
+use Rattle.uss_c.specs.declared.UssBuilt.{UssBuilt}
+use Rattle.uss_c.specs.Host.{BuildLeaves}
+use Rattle.claims_results.specs.OneResult.{OneResult, OneExit}
 
 -- what is equal to the same definition is equal
 pub equal-through : {A : Type 0} {d r r′ : A} → r ≡ d → r′ ≡ d → r ≡ r′
 equal-through e e′ = e ∙ sym e′
-
--- two calls with the same parameters have the same result
-abbrev pub OneResult : {L : Type 0} {A R S : L → Type 0} → ((κs : L) → A κs → R κs → S κs → Type 0) → Type 0
-OneResult {L} {A} {R} {S} Post = (κs : L) (a : A κs) (r r′ : R κs) (s s′ : S κs) → Post κs a r s → Post κs a r′ s′ → r ≡ r′
-
--- and leave the same in a lent buffer
-abbrev pub OneExit : {L : Type 0} {A R S : L → Type 0} → ((κs : L) → A κs → R κs → S κs → Type 0) → ((κs : L) → S κs → List ℕ) → Type 0
-OneExit {L} {A} {R} {S} Post left =
-    (κs : L) (a : A κs) (r r′ : R κs) (s s′ : S κs) → Post κs a r s → Post κs a r′ s′ → left κs s ≡ left κs s′
 
 pub words-join-one : OneResult words-join.Post
 words-join-one κs a r r′ s s′ = equal-through
@@ -127,6 +122,9 @@ table-find-one κs a r r′ s s′ = equal-through
 
 pub opening-open-one : OneResult opening-open.Post
 opening-open-one κs a r r′ s s′ = equal-through
+
+pub net-empty-area-one : OneResult net-empty-area.Post
+net-empty-area-one κs a r r′ s s′ = equal-through
 
 pub net-read-area-one : OneResult net-read-area.Post
 net-read-area-one κs a r r′ s s′ = equal-through
@@ -244,7 +242,11 @@ master-build-buffer κs a r r′ s s′ p p′ = equal-through (p .bytes-are) (p
 
 -- the calls for C
 pub uss-slave-one : OneResult uss-slave.Post
-uss-slave-one κs a r r′ s s′ p p′ = slave-same _ r r′ _ _ _ _ p p′ .0
+uss-slave-one κs a r r′ s s′ p p′ = λ i. record {
+  number = equal-through (p .number-is) (p′ .number-is) i;
+  length = equal-through (p .length-is) (p′ .length-is) i;
+  control = equal-through (p .control-is) (p′ .control-is) i;
+}
 
 pub uss-slave-values : OneExit uss-slave.Post (λ κs s. now (s .1 .1 .0))
 uss-slave-values κs a r r′ s s′ p p′ = equal-through (p .values-are) (p′ .values-are)
@@ -252,26 +254,34 @@ uss-slave-values κs a r r′ s s′ p p′ = equal-through (p .values-are) (p�
 pub uss-slave-buffer : OneExit uss-slave.Post (λ κs s. now (s .1 .1 .1 .1 .1 .1 .0))
 uss-slave-buffer κs a r r′ s s′ p p′ = equal-through (p .reply-is) (p′ .reply-is)
 
+built-one : {o : BuildOutcome} {r r′ : UssBuilt} {out out′ : List ℕ} → BuildLeaves o r out → BuildLeaves o r′ out′ → r ≡ r′
+built-one p p′ = λ i. record { number = equal-through (p .number-is) (p′ .number-is) i; length = equal-through (p .length-is) (p′ .length-is) i }
+
 pub uss-build-task-one : OneResult uss-build-task.Post
-uss-build-task-one κs a r r′ s s′ p p′ = build-same _ r r′ _ _ p p′ .0
+uss-build-task-one κs a r r′ s s′ p p′ = built-one p p′
 
 pub uss-build-task-buffer : OneExit uss-build-task.Post (λ κs s. now (s .1 .1 .1 .1 .1 .1 .0))
 uss-build-task-buffer κs a r r′ s s′ p p′ = equal-through (p .bytes-are) (p′ .bytes-are)
 
 pub uss-build-mirror-one : OneResult uss-build-mirror.Post
-uss-build-mirror-one κs a r r′ s s′ p p′ = build-same _ r r′ _ _ p p′ .0
+uss-build-mirror-one κs a r r′ s s′ p p′ = built-one p p′
 
 pub uss-build-mirror-buffer : OneExit uss-build-mirror.Post (λ κs s. now (s .1 .1 .0))
 uss-build-mirror-buffer κs a r r′ s s′ p p′ = equal-through (p .bytes-are) (p′ .bytes-are)
 
 pub uss-build-broadcast-one : OneResult uss-build-broadcast.Post
-uss-build-broadcast-one κs a r r′ s s′ p p′ = build-same _ r r′ _ _ p p′ .0
+uss-build-broadcast-one κs a r r′ s s′ p p′ = built-one p p′
 
 pub uss-build-broadcast-buffer : OneExit uss-build-broadcast.Post (λ κs s. now (s .1 .1 .1 .1 .1 .0))
 uss-build-broadcast-buffer κs a r r′ s s′ p p′ = equal-through (p .bytes-are) (p′ .bytes-are)
 
 pub uss-read-reply-one : OneResult uss-read-reply.Post
-uss-read-reply-one κs a r r′ s s′ p p′ = reply-same _ r r′ p p′
+uss-read-reply-one κs a r r′ s s′ p p′ = λ i. record {
+  number = equal-through (p .number-is) (p′ .number-is) i;
+  id = equal-through (p .id-is) (p′ .id-is) i;
+  value = equal-through (p .value-is) (p′ .value-is) i;
+  process = equal-through (p .process-is) (p′ .process-is) i;
+}
 
 pub uss-list-one : OneResult uss-list.Post
 uss-list-one κs a r r′ s s′ p p′ = equal-through (p .0) (p′ .0)

@@ -1,4 +1,3 @@
 -- Laws behind the calls for C.
 pub mod LengthLaws
 pub mod HostLaws
-pub mod SameLaws

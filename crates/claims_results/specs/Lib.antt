@@ -1,0 +1,2 @@
+-- One result for each public function.
+pub mod OneResult
