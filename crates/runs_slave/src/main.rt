@@ -187,35 +187,41 @@ fn call(
     next
 }
 
-// One call on the drive's table, from its first values.
-fn ask_drive(node: u8, pkw: u8, pzd: u8, received: &[u8]) {
-    let setup = Setup { node, pkw, pzd };
-    let mut values = DRIVE_VALUES;
+// One call from the first control words.
+fn start(setup: Setup, table: &[u8], values: &mut [u32], old: &[u32], received: &[u8]) {
     let mut reply = [0u8; 256];
     call(
         setup,
-        &DRIVE,
-        &mut values,
-        &DRIVE_VALUES,
+        table,
+        values,
+        old,
         start_control(),
         received,
         &mut reply,
     );
 }
 
-// One call on the bench's table, from its first values.
+// On the drive's table, from its first values.
+fn ask_drive(node: u8, pkw: u8, pzd: u8, received: &[u8]) {
+    let mut values = DRIVE_VALUES;
+    start(
+        Setup { node, pkw, pzd },
+        &DRIVE,
+        &mut values,
+        &DRIVE_VALUES,
+        received,
+    );
+}
+
+// On the bench's table, from its first values.
 fn ask(node: u8, pkw: u8, pzd: u8, received: &[u8]) {
-    let setup = Setup { node, pkw, pzd };
     let mut values = BENCH_VALUES;
-    let mut reply = [0u8; 256];
-    call(
-        setup,
+    start(
+        Setup { node, pkw, pzd },
         &BENCH,
         &mut values,
         &BENCH_VALUES,
-        start_control(),
         received,
-        &mut reply,
     );
 }
 
@@ -247,18 +253,19 @@ fn ask_first(of_drive: bool, pkw: u8, t: &[u8], n: usize) {
     }
 }
 
-// A task with the words 047F 2000, to the drive.
-fn send_drive(pkw: u8, pke: u16, ind: u16, value: u32) {
+// A task with the words 047F 2000.
+fn send(of_drive: bool, pkw: u8, pke: u16, ind: u16, value: u32) {
     let mut t = [0u8; 256];
     let n = build(&mut t, 3, pkw, Area { pke, ind, value }, 0x047f, 0x2000);
-    ask_first(true, pkw, &t, n);
+    ask_first(of_drive, pkw, &t, n);
 }
 
-// The same to the bench.
+fn send_drive(pkw: u8, pke: u16, ind: u16, value: u32) {
+    send(true, pkw, pke, ind, value);
+}
+
 fn send_bench(pkw: u8, pke: u16, ind: u16, value: u32) {
-    let mut t = [0u8; 256];
-    let n = build(&mut t, 3, pkw, Area { pke, ind, value }, 0x047f, 0x2000);
-    ask_first(false, pkw, &t, n);
+    send(false, pkw, pke, ind, value);
 }
 
 // A broadcast to the bench: selector, first mask, the words after it, two process words.
@@ -303,31 +310,13 @@ fn usual() -> Setup {
 // 21: a table that ends within a record.
 fn open_table() {
     let mut values = BENCH_VALUES;
-    let mut reply = [0u8; 256];
-    call(
-        usual(),
-        &BENCH[..95],
-        &mut values,
-        &BENCH_VALUES,
-        start_control(),
-        &K2,
-        &mut reply,
-    );
+    start(usual(), &BENCH[..95], &mut values, &BENCH_VALUES, &K2);
 }
 
 // 22: one value too few.
 fn open_values() {
     let mut values = BENCH_VALUES;
-    let mut reply = [0u8; 256];
-    call(
-        usual(),
-        &BENCH,
-        &mut values[..10],
-        &BENCH_VALUES,
-        start_control(),
-        &K2,
-        &mut reply,
-    );
+    start(usual(), &BENCH, &mut values[..10], &BENCH_VALUES, &K2);
 }
 
 // 23: a reply buffer of 255 bytes.
