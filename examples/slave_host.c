@@ -9,7 +9,7 @@
 #include <string.h>
 
 /* The parameter table, 12 bytes a record, numbers rising. A record's first word is number * 2 + double; then come
- * signed 0x80, writable 0x40 and elements * 4 / 256, elements * 64 % 256, minimum, maximum. */
+ * signed 0x80 + writable 0x40 + elements / 4, and elements % 4 * 64; then minimum and maximum, four bytes each, high byte first. */
 static const uint8_t table[] = {
     /* 700: word, writable, 0 to 99 */
     0x05, 0x78, 0x40, 0x00, 0, 0, 0, 0, 0, 0, 0, 99,

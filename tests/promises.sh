@@ -1,7 +1,8 @@
 #!/usr/bin/env bash
-# Compares docs/PROMISES.md with the sources: no public function has a `requires`; every one has a row, with at least two must-fail
-# edits of its own crate and the instances of claims_results that say it has one result; every row names a function, and every edit
-# of the repository is named on the page. Exits 1 where one is missing.
+# Compares the pages with the sources. docs/PROMISES.md: no public function has a `requires`; every one has a row, with at least two
+# must-fail edits of its own crate and its own instances of claims_results, one for the result and one for each slice lent for
+# writing; every row names a function, and every edit of the repository is named on the page. docs/PROMISES.md, docs/DECISIONS.md
+# and docs/DAMAGE.md: each name that is given with its crate and file stands there. Exits 1 where one of these does not hold.
 set -euo pipefail
 cd "$(dirname "$0")/.."
 page=docs/PROMISES.md
@@ -12,10 +13,26 @@ wrong() {
     failed=1
 }
 
+# a line for each public function: its name, then the last words of its instances' names: `one` for the result, and one for each
+# slice that is lent for writing, `buffer` for bytes and `values` for 32-bit numbers
 functions="$(for source in crates/*/src/*.rt; do
     crate="${source#crates/}"
-    crate="${crate%%/*}"
-    sed -nE 's/^pub (extern "C" )?fn ([a-z_0-9]+).*/\2/p' "$source" | sed "s/^/$crate::/"
+    awk -v crate="${crate%%/*}" '
+        /^pub (extern "C" )?fn / {
+            name = $0
+            sub(/^pub (extern "C" )?fn /, "", name)
+            sub(/[^a-z_0-9].*/, "", name)
+            lent = " one"
+        }
+        name != "" && /^{/ { print crate "::" name lent; name = "" }
+        name != "" {
+            rest = $0
+            while (match(rest, /&mut [^,)]*/)) {
+                type = substr(rest, RSTART, RLENGTH)
+                rest = substr(rest, RSTART + RLENGTH)
+                lent = lent (type == "&mut [u8]" ? " buffer" : type == "&mut [u32]" ? " values" : " unknown")
+            }
+        }' "$source"
 done)"
 
 # a `requires` between a public function's name and its body
@@ -28,26 +45,45 @@ for source in crates/*/src/*.rt; do
         END { exit bad }' "$source" || failed=1
 done
 
+# prefix_of NAME: what the names of a function's instances start with: slave-serve for slave::serve, uss-slave for uss_c::uss_slave
+prefix_of() {
+    local prefix="${1/::/-}"
+    prefix="${prefix#uss_c-}"
+    echo "${prefix//_/-}"
+}
+
+# instance NAME PREFIX LAW: the law is in the file of results, about the contract of that function
+instance() {
+    grep -qE "^pub $3 : One(Result|Exit) $2\.Post( |\$)" "$results" \
+        && grep -qE "^use Rattle·${1%%::*}\.proofs\.«?${1##*::}»?\.Reads as $2\$" "$results"
+}
+
 rows=0
-while IFS='|' read -r _ function _ _ edits instance _; do
+while IFS='|' read -r _ function _ _ edits laws _; do
     name="$(tr -d '` ' <<<"$function")"
     rows=$((rows + 1))
-    grep -qx -- "$name" <<<"$functions" || wrong "a row names $name, which is no public function"
+    lent="$(sed -nE "s/^$name //p" <<<"$functions")"
+    if [ -z "$lent" ]; then
+        wrong "a row names $name, which is no public function"
+        continue
+    fi
     count=0
     for edit in $(tr -d '`,' <<<"$edits"); do
         count=$((count + 1))
         [ -f "crates/${name%%::*}/must-fail/$edit.edit" ] || wrong "$name: no edit $edit in its crate"
     done
     [ "$count" -ge 2 ] || wrong "$name: fewer than two must-fail edits"
-    laws=0
-    for law in $(tr -d '`,' <<<"$instance"); do
-        laws=$((laws + 1))
-        grep -q "^pub $law :" "$results" || wrong "$name: no instance $law"
+    prefix="$(prefix_of "$name")"
+    own="$(printf "$prefix-%s\n" $lent | sort)"
+    given="$(tr -d '`,' <<<"$laws" | xargs -n 1 | sort)"
+    [ "$given" = "$own" ] || wrong "$name: its instances are $(xargs <<<"$own"), its row names $(xargs <<<"$given")"
+    [ "$(uniq -d <<<"$own")" = "" ] || wrong "$name: two slices lent for writing have one instance"
+    for law in $own; do
+        instance "$name" "$prefix" "$law" || wrong "$name: no instance $law of its contract"
     done
-    [ "$laws" -ge 1 ] || wrong "$name: no instance of one result"
 done < <(grep -E '^\| `[a-z_]+::[a-z_0-9]+` \|' "$page")
 
-for name in $functions; do
+for name in $(cut -d' ' -f1 <<<"$functions"); do
     grep -qF "| \`$name\` |" "$page" || wrong "$name has no row"
 done
 edits=0
@@ -56,5 +92,35 @@ for file in crates/*/must-fail/*.edit; do
     edit="$(basename "$file" .edit)"
     grep -qE "(^|[^a-z_0-9])$edit([^a-z_0-9]|\$)" "$page" || wrong "the edit $file is not named"
 done
-echo "promises: $(wc -w <<<"$functions") public functions, $rows rows, $edits must-fail edits"
+
+# places PAGE: the names that are given with crate and file, as in `name`, `name` (crate, File) and (`name`; crate, File): a line
+# for each place, with crate, file and names
+places() {
+    local names='`[A-Za-z0-9-]+`((,| and) `[A-Za-z0-9-]+`)*' place='[a-z_]+, [A-Z][A-Za-z0-9]*'
+    tr -s '\n ' ' ' < "$1" | grep -oE "$names( \($place\)|; $place)" \
+        | sed -E 's/^(.*`)(; | \()([a-z_]+), ([A-Za-z0-9]+)\)?$/\3 \4 \1/; s/ and / /g' | tr -d '`,'
+}
+
+# stands CRATE FILE NAME: the name is defined or stated in that file of the crate
+stands() {
+    local part
+    for part in specs proofs; do
+        if [ -f "crates/$1/$part/$2.antt" ] \
+            && grep -qE "^ *(abbrev |unfoldable )?pub (record )?$3( |\$)" "crates/$1/$part/$2.antt"; then
+            return 0
+        fi
+    done
+    return 1
+}
+
+named=0
+for text in docs/PROMISES.md docs/DECISIONS.md docs/DAMAGE.md; do
+    while read -r crate file names; do
+        for name in $names; do
+            named=$((named + 1))
+            stands "$crate" "$file" "$name" || wrong "$text: no $name in crates/$crate, file $file.antt"
+        done
+    done < <(places "$text")
+done
+echo "promises: $(wc -l <<<"$functions") public functions, $rows rows, $edits must-fail edits, $named names with their places"
 exit "$failed"

@@ -273,7 +273,7 @@ fn perform(area: &[u16], records: &[Record], values: &mut [u32]) -> (Vec<u16>, O
 
 // ---- slave
 
-/// Why a broadcast with these words is void.
+/// Whether a broadcast with these words is void.
 fn void(s: Setup, net: &[u16]) -> bool {
     let (pkw, pzd) = (s.pkw as usize, s.pzd as usize);
     if pkw == 0 || pzd == 0 {

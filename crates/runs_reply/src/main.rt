@@ -131,7 +131,7 @@ fn main() {
     read_other_rows();
 }
 
-// Replies to K2: K3 and K4 of document 01, and K5 and K6.
+// Read as replies to K2: K3 and K4 of document 01, which are, and K5 and K6, which are K2 damaged.
 fn read_known() {
     read_usual(&K3);
     read_usual(b"\x02\x0e\x03\x74\x3a\x00\x00\x00\x00\x00\x00\x03\x31\x20\x00\x53");
