@@ -199,7 +199,7 @@ int main(void)
     show_telegram("heard", back, n);
     read_back(USS_READ_ELEMENT, 1080, 1, 0, still, back, n);
 
-    show_step("A broadcast starts both drives: bit 0 of the control word, and the set point. The rest is kept.");
+    show_step("A broadcast starts both drives: bits 0 and 10 of the control word, and the set point. The rest is kept.");
     b = uss_build_broadcast(fan, 6, 0x0401, 0xFFFF, start, telegram, sizeof telegram);
     on_the_line(telegram, b.length, back);
     show_step("A mirror telegram tests the line to the fan: the same bytes come back.");

@@ -1,6 +1,6 @@
 -- What a merge does to each bit: the mask's bits come from the word, the others from the old word. Assumes nothing.
 use mathlib.Core.Path.{_≡_, refl, sym, ap, _∙_}
-use mathlib.Core.Bool.{cond}
+use mathlib.Core.Bool.{Bool, true, false, cond}
 use Prim.Native.Nat.{ℕ, zero, suc, _-_, _/_, _%_, _^_, _<_}
 use native.Mathlib.Omega.{arith}
 use native.Mathlib.Numerals.{one-add}
@@ -55,3 +55,12 @@ merge-bit old word mask k small in-word =
     or-bit k (bitAnd old (65535 - mask)) (bitAnd word mask)
     ∙ rw (and-bit k old (65535 - mask), and-bit k word mask, flip-bit 16 k mask small in-word)
     (merge-one (bit k old) (bit k word) (bit k mask) (omega arith) (omega arith) (omega arith))
+
+-- merged twice is merged once, bit by bit
+pub merge-twice : (old word mask k : ℕ) → mask < 65536 → k < 16 → bit k (mergeOf (mergeOf old word mask) word mask) ≡ bit k (mergeOf old word mask)
+merge-twice old word mask k small in-word =
+    merge-bit (mergeOf old word mask) word mask k small in-word ∙ go (eqb (bit k mask) 1) (merge-bit old word mask k small in-word)
+  where
+    go : (b : Bool) → bit k (mergeOf old word mask) ≡ cond b (bit k word) (bit k old) → cond b (bit k word) (bit k (mergeOf old word mask)) ≡ bit k (mergeOf old word mask)
+    go true e = sym e
+    go false e = refl

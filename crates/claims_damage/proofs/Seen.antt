@@ -7,16 +7,15 @@
 --     second-hit-seen     LGE hit: refused
 --     long-promise        16 bytes received and LGE reading 254: 13
 use mathlib.Core.Path.{_≡_, refl, sym, ap, _∙_}
-use mathlib.Core.List.{List, [], _∷_, _++_}
+use mathlib.Core.List.{List}
 use mathlib.Core.Logic.{_↔_}
-use Prim.Native.Nat.{ℕ, suc, _+_, _*_, _/_, _%_, _^_, _≤_, _<_}
+use Prim.Native.Nat.{ℕ, _+_, _*_, _/_, _%_, _^_, _≤_, _<_}
 use native.Mathlib.Nat.{zero-div}
 use native.Mathlib.Omega.{arith}
 use borrow.Author.Tests.{le-ltb, eq-eqb, ne-eqb}
 use lib.Bits.{bitXor, xor-self, xor-zero-r}
 use lib.Dec.{lit≤}
 use lib.ListN.{length, take}
-use lib.Seq.{take-suc, take-length}
 use Rattle.rows.specs.Bits.{bit}
 use Rattle.words.specs.Words.{byteAt}
 use Rattle.frame.specs.Bcc.{xorAll}
@@ -26,24 +25,20 @@ use Rattle.frame.specs.declared.FrameFault.the-variants.{Short, Start, Length, 
 use Rattle.frame.specs.declared.FrameCheck.{FrameCheck}
 use Rattle.frame.specs.declared.FrameCheck.the-variants.{Sound, Broken}
 use Rattle.frame.proofs.XorLaws.{xor-snoc, xor-all-lt, xor-eq, xor-fix, length-zip, getD-zip, xor-zip}
-use Rattle.frame.proofs.FrameLaws.{sound-framed, framed-sound}
+use Rattle.frame.proofs.FrameLaws.{split-last, Counted, sound-framed, framed-sound}
 use Rattle.claims_damage.specs.Damage.{damaged, Damage, flips, Passes, Refuses, Unseen, Hit, OneByte, bitAt, Order, Burst}
 use Rattle.claims_damage.proofs.Parity.{zero-digits, one-digit, digit-parity, single}
 
 -- ---- the check byte is right exactly where the XOR of the whole is 0
 
-split-last : (t : List ℕ) → 0 < length t → xorAll t ≡ bitXor (xorAll (take (lastOf t) t)) (byteAt t (lastOf t))
-split-last t h =
-    let n : suc (lastOf t) ≡ length t = omega arith in
-    let e : t ≡ take (lastOf t) t ++ byteAt t (lastOf t) ∷ [] =
-    sym (take-length t) ∙ ap (λ (k : ℕ). take k t) (sym n) ∙ take-suc t (lastOf t) 0 (omega arith) in
-    ap xorAll e ∙ xor-snoc (take (lastOf t) t) (byteAt t (lastOf t))
+xor-last : (t : List ℕ) → 0 < length t → xorAll t ≡ bitXor (xorAll (take (lastOf t) t)) (byteAt t (lastOf t))
+xor-last t h = ap xorAll (split-last t h) ∙ xor-snoc (take (lastOf t) t) (byteAt t (lastOf t))
 
 zero-of-check : (t : List ℕ) → 0 < length t → byteAt t (lastOf t) ≡ xorAll (take (lastOf t) t) → xorAll t ≡ 0
-zero-of-check t h e = split-last t h ∙ ap (λ (x : ℕ). bitXor (xorAll (take (lastOf t) t)) x) e ∙ xor-self (xorAll (take (lastOf t) t))
+zero-of-check t h e = xor-last t h ∙ ap (λ (x : ℕ). bitXor (xorAll (take (lastOf t) t)) x) e ∙ xor-self (xorAll (take (lastOf t) t))
 
 check-of-zero : (t : List ℕ) → 0 < length t → xorAll t ≡ 0 → byteAt t (lastOf t) ≡ xorAll (take (lastOf t) t)
-check-of-zero t h e = sym (xor-eq (xorAll (take (lastOf t) t)) (byteAt t (lastOf t)) (sym (split-last t h) ∙ e))
+check-of-zero t h e = sym (xor-eq (xorAll (take (lastOf t) t)) (byteAt t (lastOf t)) (sym (xor-last t h) ∙ e))
 
 -- ---- the exact line
 
@@ -66,27 +61,29 @@ module _ (t f : List ℕ) (d : Damage t f) where
         even = λ k hk. sym (digit-parity k f) ∙ ap (λ (x : ℕ). bit k x) z ∙ ap (λ (x : ℕ). x % 2) (zero-div (2 ^ k));
       }
 
-  kept : (i : ℕ) → byteAt f i ≡ 0 → byteAt (damaged t f) i ≡ byteAt t i
+  pub kept : (i : ℕ) → byteAt f i ≡ 0 → byteAt (damaged t f) i ≡ byteAt t i
   kept i e = getD-zip t f i (d .same) ∙ ap (λ (x : ℕ). bitXor (byteAt t i) x) e ∙ xor-zero-r (byteAt t i)
+
+  -- with the first two bytes spared the tests 10 to 13 go as before
+  pub counted-kept : byteAt f 0 ≡ 0 → byteAt f 1 ≡ 0 → Counted (damaged t f)
+  counted-kept first second =
+      let p = sound-framed t (d .passes) .counted in
+      let n = length-zip t f (d .same) in
+      let b1 = kept 1 second in
+      record {
+        long = omega (arith, p .long, n);
+        start = kept 0 first ∙ p .start;
+        low = omega (arith, b1, p .low);
+        high = omega (arith, b1, p .high);
+        count = omega (arith, b1, n, p .count);
+      }
 
   unseen-passes : Unseen f → Passes (damaged t f)
   unseen-passes u =
-      let p = sound-framed t (d .passes) .counted in
-      let n = length-zip t f (d .same) in
-      let b0 = kept 0 (u .first) in
-      let b1 = kept 1 (u .second) in
+      let c = counted-kept (u .first) (u .second) in
       let z : xorAll f ≡ 0 = zero-digits 8 (xorAll f) (xor-all-lt f (d .bytes)) (λ k hk. digit-parity k f ∙ u .even k hk) in
       ap isSound (framed-sound (damaged t f)
-      (record {
-        counted = record {
-          long = omega (arith, p .long, n);
-          start = b0 ∙ p .start;
-          low = omega (arith, b1, p .low);
-          high = omega (arith, b1, p .high);
-          count = omega (arith, b1, n, p .count);
-        };
-        check = check-of-zero (damaged t f) (omega (arith, p .long, n)) (xor-damaged ∙ z);
-      }))
+      (record { counted = c; check = check-of-zero (damaged t f) (omega (arith, c .long)) (xor-damaged ∙ z) }))
 
 pub exact : (t f : List ℕ) → Damage t f → Passes (damaged t f) ↔ Unseen f
 exact t f d = (passing-unseen t f d, unseen-passes t f d)

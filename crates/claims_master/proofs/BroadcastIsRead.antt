@@ -8,7 +8,6 @@ use native.Mathlib.Omega.{arith}
 use borrow.Author.Tests.{eqb-true, eqb-false, not-true, not-false}
 use lib.Dec.{eqb, lit<, lit≤}
 use lib.ListN.{length, getD}
-use Rattle.rows.proofs.RowsLaws.{row-passed}
 use Rattle.rows.proofs.BoolLaws.{and-left}
 use Rattle.words.specs.Words.{wordAt}
 use Rattle.words.specs.declared.Words.{Words}
@@ -27,7 +26,8 @@ use Rattle.net.proofs.NetLaws.{area-all}
 use Rattle.net.proofs.SealLaws.{length-telegram, telegram-decoded}
 use Rattle.net.proofs.ReadLaws.{Headed, area-word, process-word, process-back}
 use Rattle.broadcast.specs.declared.Command.{Command}
-use Rattle.broadcast.specs.Broadcast.{selectsFirst, isVoid, controlAfter}
+use Rattle.broadcast.specs.Broadcast.{isVoid, controlAfter}
+use Rattle.broadcast.proofs.VoidLaws.{not-void-commands}
 use Rattle.request.specs.declared.Request.the-variants.{Broadcast}
 use Rattle.request.specs.Request.{unusedZero, commandOf, expressible}
 use Rattle.slave.specs.declared.Served.{Served}
@@ -38,28 +38,6 @@ use Rattle.master.specs.Build.{commandArea, telegramFor}
 use Rattle.claims_master.specs.Claims.{BroadcastRead}
 use Rattle.claims_master.proofs.SentLaws.{net-count, net-some, net-fits}
 use Rattle.claims_master.proofs.CarriedLaws.{area-words}
-
--- a broadcast that is not void has both areas, and a selector of three bits
-record Commands (c : Command) (pkw pzd : ℕ) : Type 0 where
-  areas : pkw ≡ 0 → ⊥
-  process : pzd ≡ 0 → ⊥
-  selects : c .selector < 8
-
-not-void-commands : (c : Command) (pkw pzd first : ℕ) → isVoid c pkw pzd first ≡ false → Commands c pkw pzd
-unfolding isVoid
-not-void-commands c pkw pzd first e =
-    let p1 = row-passed not (eqb pkw 0) true _ refl (ap not e) in
-    let p2 = row-passed not (eqb pzd 0) true _ refl (p1 .1) in
-    let p3 = row-passed not (not (selectsFirst (c .selector))) true _ refl (p2 .1) in
-    let p4 = row-passed not (not (eqb (c .mask1 / 1024 % 2) 1)) true _ refl (p3 .1) in
-    let p5 = row-passed not (not (eqb (first / 1024 % 2) 1)) true _ refl (p4 .1) in
-    let p6 = row-passed not (not (eqb (c .selector % 2) 0)) true _ refl (p5 .1) in
-    let p7 = row-passed not (not (eqb (c .selector / 8) 0)) true _ refl (p6 .1) in
-    record {
-      areas = eqb-false pkw 0 (p1 .0);
-      process = eqb-false pzd 0 (p2 .0);
-      selects = omega (arith, eqb-true (c .selector / 8) 0 (not-false _ (p7 .0)));
-    }
 
 -- the words of a command's area
 module _ (adr selector mask1 mask2 : ℕ) (w : Words) (pzd : ℕ) where

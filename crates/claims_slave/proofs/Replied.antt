@@ -3,6 +3,7 @@
 --     mirror-same         a mirror's reply is the received telegram, byte for byte
 --     change-stored       a granted change stores the value that it carries at the place that it means, and nowhere else
 --     control-replaced    with bit 10, the first PZD control words are those received
+--     taken-runs          after a broadcast that is taken, bit 10 of the first control word is 1
 use Prim.Native.Nat.{ℕ, _+_, _/_, _%_, _<_}
 use mathlib.Core.Path.{_≡_, refl, sym, ap, _∙_}
 use mathlib.Core.Bool.{false}
@@ -11,6 +12,7 @@ use native.Mathlib.Omega.{arith}
 use borrow.Author.Tests.{ne-eqb}
 use lib.ListN.{length, set}
 use Rattle.rows.specs.Bits.{bit}
+use Rattle.words.specs.Words.{Bytes}
 use Rattle.words.specs.declared.Words.{Words}
 use Rattle.setup.specs.declared.Setup.{Setup}
 use Rattle.setup.proofs.SetupLaws.{ok-configured, area-few}
@@ -27,16 +29,19 @@ use Rattle.opening.proofs.AnswersLaws.{passed-opened}
 use Rattle.net.specs.Net.{netOf}
 use Rattle.net.specs.Read.{processAt}
 use Rattle.net.proofs.NetLaws.{length-net}
+use Rattle.net.proofs.ReadLaws.{process-first}
 use Rattle.net.proofs.SealLaws.{telegram-passes, written-first, written-rest}
-use Rattle.slave.specs.declared.Answer.the-variants.{Replied, Mirrored}
+use Rattle.broadcast.specs.Broadcast.{isVoid}
+use Rattle.broadcast.proofs.VoidLaws.{not-void-commands, runs-after}
+use Rattle.slave.specs.declared.Answer.the-variants.{Replied, Mirrored, Taken}
 use Rattle.setup.specs.SetupRules.{netBytes}
-use Rattle.slave.specs.Slave.{firstWord, taskDone, replyOf, controlTaken, callOf}
+use Rattle.slave.specs.Slave.{firstWord, commandAt, taskDone, replyOf, controlTaken, callOf}
 use Rattle.task.specs.declared.Act.{Act}
 use Rattle.slave.specs.Perform.{idle, doneOf, performOf}
 use Rattle.slave.proofs.PerformLaws.{task-granted, granted-place}
 use Rattle.claims_slave.specs.Outcomes.{SoundReply, SameReply, areaOf, taskIn, GrantedChange, placeIn, valueIn}
 use Rattle.claims_slave.proofs.Kept.{reply-long, found-is}
-use Rattle.claims_slave.proofs.WhenAnswered.{replied-call, mirrored-call, replied-exactly, mirrored-exactly}
+use Rattle.claims_slave.proofs.WhenAnswered.{replied-call, mirrored-call, taken-call, replied-exactly, mirrored-exactly, taken-exactly}
 
 -- ---- replies
 
@@ -103,3 +108,14 @@ module _ (s : Setup) (t vs : List ℕ) (control status : Words) (rx out : List �
   control-replaced e n b =
       let h = replied-exactly s t vs control status rx out .0 e in
       rw (replied-call s t vs control status rx out (h .0) (h .1)) (rw (ne-eqb (s .pzd) 0 n, b))
+
+  pub taken-runs : Bytes rx → callOf s t vs control status rx out .served .answer ≡ Taken → bit 10 (callOf s t vs control status rx out .served .control .w1) ≡ 1
+  unfolding commandAt
+  taken-runs b e =
+      let h = taken-exactly s t vs control status rx out .0 e in
+      let p = processAt rx (s .pkw) (s .pzd) control in
+      let k = not-void-commands (commandAt rx (s .pkw)) (s .pkw) (s .pzd) (firstWord s rx) (h .3) in
+      let first : firstWord s rx ≡ p .w1 = sym (process-first rx (s .pkw) (s .pzd) control (k .process)) in
+      let v : isVoid (commandAt rx (s .pkw)) (s .pkw) (s .pzd) (p .w1) ≡ false = rw first at (h .3) in
+      rw (taken-call s t vs control status rx out (h .0) (h .1) (h .2) (h .3))
+      (runs-after (commandAt rx (s .pkw)) (s .pkw) (s .pzd) control p v (omega (arith, b 5, b 6)))

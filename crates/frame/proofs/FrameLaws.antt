@@ -1,13 +1,14 @@
 -- What it means that a list passes the frame check: the tests of `frameOf` one by one, and back. Assumes nothing.
-use mathlib.Core.Path.{_≡_, refl, sym}
+use mathlib.Core.Path.{_≡_, refl, sym, ap, _∙_}
 use mathlib.Core.Bool.{true, not, _||_}
-use mathlib.Core.List.{List, [], _∷_}
-use Prim.Native.Nat.{ℕ, suc, _+_, _-_, _≤_}
+use mathlib.Core.List.{List, [], _∷_, _++_}
+use Prim.Native.Nat.{ℕ, suc, _+_, _-_, _≤_, _<_}
 use native.Mathlib.Omega.{arith}
 use borrow.Author.Tests.{ltb-false, eqb-true, le-ltb, eq-eqb, ne-eqb, not-false}
 use lib.Dec.{ltb, eqb}
 use lib.Bits.{bitXor}
 use lib.ListN.{length, take, drop}
+use lib.Seq.{take-suc, take-length}
 use Rattle.rows.proofs.RowsLaws.{row-passed}
 use Rattle.rows.proofs.BoolLaws.{or-left, or-right}
 use Rattle.words.specs.Words.{byteAt}
@@ -15,6 +16,12 @@ use Rattle.frame.specs.Bcc.{xorAll}
 use Rattle.frame.specs.Frame.{frameOf, lastOf, isSound}
 use Rattle.frame.specs.declared.FrameFault.the-variants.{Short, Start, Length, Count, Check}
 use Rattle.frame.specs.declared.FrameCheck.the-variants.{Sound, Broken}
+
+-- all bytes but the last, and the last
+pub split-last : (t : List ℕ) → 0 < length t → t ≡ take (lastOf t) t ++ byteAt t (lastOf t) ∷ []
+split-last t h =
+    let n : suc (lastOf t) ≡ length t = omega arith in
+    sym (take-length t) ∙ ap (λ (k : ℕ). take k t) (sym n) ∙ take-suc t (lastOf t) 0 (omega arith)
 
 -- a telegram that is past the tests 10 to 13
 pub record Counted (t : List ℕ) : Type 0 where

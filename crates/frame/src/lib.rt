@@ -93,7 +93,7 @@ pub fn bcc(bytes: &[u8]) -> u8
     ((word % 256) ^ (word / 256)) as u8
 }
 
-// The frame check: 10 to 14, in the document's order. LGE is used only after the byte count is found to agree with it,
+// The frame check: 10 to 14, in the document's order. No byte is looked for by LGE before the byte count agreed with it,
 // and each byte is read once: the XOR goes over the net bytes, and the three bytes before them are mixed in.
 pub fn check(received: &[u8]) -> FrameCheck
     ensures { λ r. ⌜ r ≡ frameOf (now (received .entry)) ⌝ }

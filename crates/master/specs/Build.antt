@@ -2,8 +2,7 @@
 -- are written 0, the index always as given; a mirror carries the node with bit 6; a broadcast is written as given with node 0.
 --     buildNumber f           the document's number of a refusal
 --     telegramFor s r net     the telegram of a request
---     admitted s askable room the first of 30, 31, 32 that applies, or none: of a set-up, of a request that can be asked or not, of a
---                             buffer's length
+--     admitted s askable room the first of 30, 31, 32 that applies, or none; askable says whether the request can be asked
 --     builtOf s r net out     the answer, the length and the buffer afterwards
 use mathlib.Core.Path.{_≡_}
 use Prim.Native.Nat.{ℕ, _+_, _*_, _%_}

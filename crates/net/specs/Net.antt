@@ -4,7 +4,7 @@
 --     valueWords n v          a value over n words, high word first
 --     areaWords n a           a parameter area of n words: PKE, IND, and the value over the words that are left
 --     netOf a n w pzd         the net bytes: an area of n words, and the first pzd of four process words
---     normalOf out adr ..     the buffer with the telegram of these net bytes at its start; unchanged where it cannot be sent
+--     normalOf out adr ..     the buffer with the telegram of these net bytes at its start; unchanged where it cannot be sent (ours)
 --     normalLength out ..     the telegram's length, or 0
 use Prim.Native.Nat.{ℕ, zero, suc, _+_, _-_, _/_, _%_}
 use mathlib.Core.List.{List, [], _∷_, _++_}

@@ -5,8 +5,8 @@
 --     wordsAt t p             the four words from place p on
 --     processAt t n pzd old   the first pzd process words, behind an area of n words; the rest are the old ones
 --     emptyArea               an area whose words are all 0
---     areaIn t n              the area where it has 3 or 4 words and all are there, else all 0
---     processIn t n pzd old   the process words where all are there, else the old ones
+--     areaIn t n              the area where it has 3 or 4 words and all are there, else all 0 (ours)
+--     processIn t n pzd old   the process words where all are there, else the old ones (ours)
 --     Worded w                each of the four is a word
 use Prim.Native.Nat.{ℕ, zero, suc, _+_, _-_, _*_, _%_, _<_}
 use mathlib.Core.List.{List, [], _∷_}

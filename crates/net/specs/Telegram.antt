@@ -1,7 +1,8 @@
 -- The frame around net bytes (document 01, Frame): 02, LGE, ADR, the net bytes, BCC.
 --     telegramOf adr net      the telegram of an address byte and net bytes
 --     written out t           the buffer with the telegram t at its start; no other byte is written
---     sealedOf out adr n      the buffer after its n net bytes, at place 3 and on, were made a telegram; unchanged where that cannot be
+--     sealedOf out adr n      the buffer after its n net bytes, at place 3 and on, were made a telegram; unchanged where that cannot
+--                             be (ours)
 --     sealedLength out n      the telegram's length, or 0
 use Prim.Native.Nat.{ℕ, _+_}
 use mathlib.Core.List.{List, [], _∷_, _++_}

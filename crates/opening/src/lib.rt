@@ -43,6 +43,13 @@ fn record_at(t: &[u8], k: usize) -> Record
     record_of(&t[12 * k..12 * k + 12])
 }
 
+// Both of two tests.
+fn hold_both(a: bool, b: bool) -> bool
+    ensures { λ r. ⌜ r ≡ (a && b) ⌝ }
+{
+    if a { b } else { false }
+}
+
 // Whether a record's limits are in order and a value is within them: a value between limits that fit shows these in order.
 fn holds(e: Entry, v: u32) -> bool
     ensures { λ r. ⌜ r ≡ (limitsOk e && isWithin e v) ⌝ }
@@ -57,13 +64,6 @@ fn holds(e: Entry, v: u32) -> bool
         return false;
     }
     within(e, v)
-}
-
-// Both of two tests.
-fn hold_both(a: bool, b: bool) -> bool
-    ensures { λ r. ⌜ r ≡ (a && b) ⌝ }
-{
-    if a { b } else { false }
 }
 
 // The same of the value at a place, which must be there.

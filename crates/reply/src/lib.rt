@@ -105,7 +105,7 @@ fn is_not_empty(area: Area) -> bool
     area.value != 0
 }
 
-// Whether an area does not repeat base, page and index, or has an ignored bit set.
+// Whether an area does not repeat base, page and index, or has a bit set that must be 0.
 fn is_other(number: u16, index: u8, area: Area) -> bool
     ensures { λ r. ⌜ r ≡ otherEcho number index area ⌝ }
 {

@@ -1,7 +1,7 @@
 -- What a master can ask (document 01, Answer number 31): task 0 with number, index, value 0; or PKW not 0, task 1-3, 6-9, 11-14,
 -- number ≤ 31999, index ≤ 254, value 0 for tasks 1, 6, 9, at most 65535 for word changes, no double change in three words;
--- unused process words 0, for task 0 too (ours). Mirror takes 1 to 252 net bytes; broadcast takes selector, masks and process words that are not
--- void, unused ones 0.
+-- unused process words 0, for task 0 too (ours). Mirror takes 1 to 252 net bytes; broadcast takes selector, masks and process words
+-- that are not void, unused ones 0.
 --     unusedZero pzd w        the words past the first pzd are 0
 --     taskFits pkw id ..      a task that can be asked in an area of pkw words
 --     taskAskable s id ..     a task request that can be asked

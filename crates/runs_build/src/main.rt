@@ -197,7 +197,7 @@ fn send_mirrors() {
     run_short(four(), Request::Mirror, b"\x01");
 }
 
-// Broadcasts: K9 and K10, three words, void ones, an unused process word.
+// Broadcasts: K9 and K10, three words, void ones, one with an unused process word.
 fn send_broadcasts() {
     run(
         four(),
@@ -215,4 +215,5 @@ fn send_broadcasts() {
         b"",
     );
     run(none(), command(2, 0x0400, 0x0000, usual()), b"");
+    run(set_up(3, 4, 1), command(2, 0x0400, 0x0000, usual()), b"");
 }

@@ -1,5 +1,5 @@
-// Runs the slave call on telegrams of documents 000, 002 and 01, and writes a line for each: the set-up, the received bytes, document
-// 01's answer number, the reply's length and bytes, the control words, and each value place that is not as it was.
+// Runs the slave call on telegrams of documents 000, 002 and 01, and writes a line for each: the set-up, the received bytes,
+// document 01's answer number, the reply's length and bytes, the control words, and each value place that is not as it was.
 use frame::number_fault;
 use net::Area;
 use opening::OpeningFault;

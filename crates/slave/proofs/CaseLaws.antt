@@ -64,10 +64,6 @@ void-same c d pkw pzd f g h i = go (eqb pkw 0) (eqb pzd 0) refl refl
     go false true p q = rw (p, q)
     go false false p q = rw (h (eqb-false pkw 0 p), i (eqb-false pzd 0 q))
 
-pub not-void : (c : Command) (pkw pzd f : ℕ) → isVoid c pkw pzd f ≡ false → pkw ≡ 0 → ⊥
-unfolding isVoid
-not-void c pkw pzd f e z = false≢true (sym e ∙ rw z)
-
 module _ (n : ℕ) (s : Setup) (control : Words) (rx : List ℕ) where
   pub broadcast-void : n ≡ netBytes s → voidIn s rx ≡ true
       → broadcastCase n s control rx ≡ refusedServed VoidBroadcast control

@@ -1,6 +1,6 @@
 -- The records of a table of bytes (document 01, Parameter table): whole records of 12 bytes, their numbers, their places. A record
 -- past the table's end reads as zeros (ours).
---     recordOf bs           the three double words of a record's 12 bytes; all 0 where there are fewer
+--     recordOf bs           the three double words of a record's 12 bytes; all 0 where there are fewer (ours)
 --     entryAt t k           record k: 32 bits of fields, minimum, maximum
 --     entriesFrom t n k     n records, from record k on
 --     entries t             all the whole records of a table

@@ -7,7 +7,7 @@ use lib.Dec.{lit≤}
 use lib.ListN.{length, getD, List·getD-eq-default}
 use mathlib.Core.List.{List}
 use Rattle.rows.proofs.RangeLaws.{EachOf, between}
-use borrow.Author.Tests.{lt-ltb}
+use borrow.Author.Tests.{lt-ltb, ltb-true}
 use mathlib.Core.Bool.{true}
 use Rattle.task.specs.Page.{pages, pageOf, nibbles, nibbleOf, baseOf, fullNumber, named}
 
@@ -51,6 +51,18 @@ module _ (number index : ℕ) (numbers : number ≤ 31999) (indices : index < 25
   -- the full number, whatever the task ID
   pub number-back : (id : ℕ) → fullNumber (id * 4096 + number % 2000) (nibbleOf number * 4096 + index) ≡ number
   number-back id = rw page-back (omega arith)
+
+-- the nibble of a page, and of a full number: what was read is written again
+nibble-page : (k : ℕ) → k < 16 → getD nibbles (getD pages k 0) 0 ≡ k
+nibble-page k h =
+    between (λ j. getD nibbles (getD pages j 0) 0 ≡ j) 16 0
+    (refl, (refl, (refl, (refl, (refl, (refl, (refl, (refl, (refl, (refl, (refl, (refl, (refl, (refl, (refl, (refl, tt)))))))))))))))) k (omega arith) h
+
+pub nibble-back : (pke ind : ℕ) → named pke ≡ true → ind < 65536 → nibbleOf (fullNumber pke ind) ≡ ind / 4096
+unfolding nibbleOf pageOf
+nibble-back pke ind n h =
+    let page : (pageOf ind * 2000 + baseOf pke) / 2000 ≡ pageOf ind = omega (arith, ltb-true (baseOf pke) 2000 n) in
+    ap (λ (k : ℕ). getD nibbles k 0) page ∙ nibble-page (ind / 4096) (omega arith)
 
 module _ (id number : ℕ) where
   pub base-back : baseOf (id * 4096 + number % 2000) ≡ number % 2000

@@ -8,16 +8,16 @@ use native.Mathlib.Omega.{arith}
 use lib.Dec.{lit≤}
 use lib.ListN.{List·getD-eq-default}
 use Rattle.rows.proofs.RangeLaws.{between}
-use Rattle.task.specs.Task.{refused, tasks, taskOf}
+use Rattle.task.specs.Task.{noTask, tasks, taskOf}
 
 -- 15, and the numbers that are no task ID
-pub refused-on : (id : ℕ) → 15 ≤ id → taskOf id ≡ refused
+pub refused-on : (id : ℕ) → 15 ≤ id → taskOf id ≡ noTask
 unfolding taskOf tasks
 refused-on id h = go (eq-or-lt-of-le h)
   where
-    go : (15 ≡ id) ⊎ (15 < id) → taskOf id ≡ refused
+    go : (15 ≡ id) ⊎ (15 < id) → taskOf id ≡ noTask
     go (inl e) = rw (← e)
-    go (inr l) = List·getD-eq-default tasks refused l
+    go (inr l) = List·getD-eq-default tasks noTask l
 
 -- reply IDs are at most 7
 pub reply-small : (id : ℕ) → taskOf id .reply ≤ 7

@@ -1,7 +1,7 @@
 -- Page, base and full number (document 01, Parameter area): bits 15 to 12 of IND are the page, whose weights are 1, 8, 4, 2;
 -- bits 10 to 0 of PKE are the base; the full number is 2000 times the page, and the base.
---     pageOf ind          the page of an IND word
---     nibbleOf number     the upper four bits of the IND word of a full number
+--     pageOf ind          the page of an IND word; 0 past 16 bits (ours)
+--     nibbleOf number     the upper four bits of the IND word of a full number; 0 past page 15 (ours)
 --     baseOf pke          the base of a PKE word
 --     fullNumber pke ind  the full number
 --     named pke           whether the base is below 2000: 2000 to 2047 name no parameter

@@ -10,42 +10,42 @@ use Rattle.task.specs.declared.Width.{Width}
 use Rattle.task.specs.declared.Width.the-variants.{Either, Word, Double}
 use Rattle.task.specs.declared.Task.{Task}
 
-abbrev pub task : Act → Width → Bool → ℕ → Task
-task act width array reply = record { act = act; width = width; array = array; reply = reply }
+abbrev pub taskRow : Act → Width → Bool → ℕ → Task
+taskRow act width array reply = record { act = act; width = width; array = array; reply = reply }
 
--- error 106
-abbrev pub refused : Task
-refused = task Refuse Either false 7
+-- error 106; task IDs over 15 do not occur, and are refused like 15 (ours)
+abbrev pub noTask : Task
+noTask = taskRow Refuse Either false 7
 
 unfoldable pub tasks : List Task
 tasks =
     -- 0 none
-    task Nothing Either false 0
+    taskRow Nothing Either false 0
     -- 1 read
-    ∷ task Read Either false 1
+    ∷ taskRow Read Either false 1
     -- 2 change word, 3 change double
-    ∷ task Change Word false 1
-    ∷ task Change Double false 2
+    ∷ taskRow Change Word false 1
+    ∷ taskRow Change Double false 2
     -- 4, 5
-    ∷ refused
-    ∷ refused
+    ∷ noTask
+    ∷ noTask
     -- 6 read element
-    ∷ task Read Either true 4
+    ∷ taskRow Read Either true 4
     -- 7 change element, word; 8 change element, double
-    ∷ task Change Word true 4
-    ∷ task Change Double true 5
+    ∷ taskRow Change Word true 4
+    ∷ taskRow Change Double true 5
     -- 9 number of elements
-    ∷ task Count Either false 6
+    ∷ taskRow Count Either false 6
     -- 10
-    ∷ refused
+    ∷ noTask
     -- 11 as 8, 12 as 7, 13 as 3, 14 as 2
-    ∷ task Change Double true 5
-    ∷ task Change Word true 4
-    ∷ task Change Double false 2
-    ∷ task Change Word false 1
+    ∷ taskRow Change Double true 5
+    ∷ taskRow Change Word true 4
+    ∷ taskRow Change Double false 2
+    ∷ taskRow Change Word false 1
     -- 15
-    ∷ refused
+    ∷ noTask
     ∷ []
 
 unfoldable pub taskOf : ℕ → Task
-taskOf id = getD tasks id refused
+taskOf id = getD tasks id noTask

@@ -1,7 +1,7 @@
 // Tasks (document 01, Parameter area): what a task ID asks, the page nibble and the full number, and the errors of a task
 // on a parameter, in the document's order.
 ghost use mathlib.Core.Path.{_≡_};
-ghost use Rattle.task.specs.Task.{task, taskOf};
+ghost use Rattle.task.specs.Task.{taskRow, taskOf};
 ghost use Rattle.task.specs.declared.Width.the-variants.{Word, Double};
 ghost use Rattle.task.specs.Page.{pageOf, nibbleOf, fullNumber};
 ghost use Rattle.task.specs.Verdict.{refusesAct, changesAct, countsAct, differsWidth, lacksArray, lacksElement, lacksRoom, verdictOf, errorNumber, elementOf};
@@ -57,7 +57,7 @@ const NIBBLES: [u8; 16] = [0, 8, 1, 9, 2, 10, 3, 11, 4, 12, 5, 13, 6, 14, 7, 15]
 
 // A row of the task table.
 fn row(act: Act, width: Width, array: bool, reply: u8) -> Task
-    ensures { λ r. ⌜ r ≡ task act width array reply ⌝ }
+    ensures { λ r. ⌜ r ≡ taskRow act width array reply ⌝ }
 {
     Task {
         act,

@@ -1,4 +1,4 @@
--- `runs_build::show_bytes` meets its contract. Assumes nothing.
+-- `runs_build::show_bytes` is well made: it ends, and keeps to what it was lent. Assumes nothing.
 use Prim.Native.Nat.{_-_, _≤_}
 use borrow.Author.Needs.{needs}
 use Rattle.runs_build.proofs.show_bytes.Statement.{statement}

@@ -1,4 +1,4 @@
--- `runs_opening::check` meets its contract. Assumes nothing.
+-- `runs_opening::check` is well made: it ends, and keeps to what it was lent. Assumes nothing.
 use mathlib.Core.Path.{sym}
 use native.Mathlib.Omega.{arith}
 use lib.Seq.{length-take-le}

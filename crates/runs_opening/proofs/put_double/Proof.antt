@@ -1,4 +1,4 @@
--- `runs_opening::put_double` meets its contract. Assumes nothing.
+-- `runs_opening::put_double` is well made: it ends, and keeps to what it was lent. Assumes nothing.
 use native.Mathlib.Omega.{arith}
 use lib.ListN.{length-set}
 use borrow.Author.Needs.{needs}

@@ -1,4 +1,4 @@
--- `runs_opening::put_records` meets its contract. Assumes nothing.
+-- `runs_opening::put_records` is well made: it ends, and keeps to what it was lent. Assumes nothing.
 use Prim.Native.Nat.{_-_, _≤_}
 use mathlib.Core.Path.{_≡_}
 use borrow.Author.Needs.{needs}

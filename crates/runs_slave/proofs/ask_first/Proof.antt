@@ -1,4 +1,4 @@
--- `runs_slave::ask_first` meets its contract. Assumes nothing.
+-- `runs_slave::ask_first` is well made: it ends, and keeps to what it was lent. Assumes nothing.
 use mathlib.Core.Path.{sym}
 use native.Mathlib.Omega.{arith}
 use lib.Seq.{length-take-le}

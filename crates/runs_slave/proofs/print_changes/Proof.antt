@@ -1,4 +1,4 @@
--- `runs_slave::print_changes` meets its contract. Assumes nothing.
+-- `runs_slave::print_changes` is well made: it ends, and keeps to what it was lent. Assumes nothing.
 use Prim.Native.Nat.{_-_, _≤_}
 use borrow.Author.Needs.{needs}
 use Rattle.runs_slave.proofs.print_changes.Statement.{statement}

@@ -9,7 +9,8 @@ use Rattle.setup.specs.SetupRules.{netBytes}
 use Rattle.setup.proofs.SetupLaws.{ok-configured, area-words}
 use Rattle.broadcast.specs.Broadcast.{isVoid}
 use Rattle.slave.specs.Slave.{firstWord, commandAt, broadcastCase}
-use Rattle.slave.proofs.CaseLaws.{process-taken, first-taken, void-same, not-void, broadcast-void, broadcast-taken}
+use Rattle.broadcast.proofs.VoidLaws.{not-void-commands}
+use Rattle.slave.proofs.CaseLaws.{process-taken, first-taken, void-same, broadcast-void, broadcast-taken}
 use borrow.Author.Needs.{needs}
 use Rattle.slave.proofs.serve_broadcast.Statement.{statement}
 use Rattle.slave.proofs.serve_broadcast.Tie as tie
@@ -78,7 +79,7 @@ returns-3 c =
     let a = e .before .before .before .args in
     let no : isVoid (commandAt (a .received .now) (a .setup .pkw)) (a .setup .pkw) (a .setup .pzd) (firstWord (a .setup) (a .received .now)) ≡ false = sym (void v) ∙ c .before .if2 .left in
     sym (broadcast-taken _ (a .setup) (a .control) (a .received .now) (long e) no
-    ∙ sym (rw (c .command-control .ensures, p .before .read-command .ensures (not-void _ _ _ _ no), process-taken (a .setup) (a .control) (a .received .now) (there e) (p .read-process .ensures))))
+    ∙ sym (rw (c .command-control .ensures, p .before .read-command .ensures (not-void-commands _ _ _ _ no .areas), process-taken (a .setup) (a .control) (a .received .now) (there e) (p .read-process .ensures))))
 
 pub serve-broadcast-spec : {M : Type 1} → statement M
 serve-broadcast-spec =

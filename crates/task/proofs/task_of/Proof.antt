@@ -8,7 +8,7 @@ use lib.Dec.{eqb}
 use Rattle.rows.proofs.RangeLaws.{between}
 use Rattle.task.specs.declared.Act.the-variants.{Change}
 use Rattle.task.specs.declared.Width.the-variants.{Word, Double}
-use Rattle.task.specs.Task.{task, refused, tasks, taskOf}
+use Rattle.task.specs.Task.{taskRow, noTask, tasks, taskOf}
 use Rattle.task.proofs.TaskLaws.{refused-on}
 use borrow.Author.Needs.{needs}
 use Rattle.task.proofs.task_of.Statement.{statement}
@@ -90,35 +90,35 @@ unfolding taskOf tasks
 returns-5 c =
     c .row5 .ensures
     ∙ rw (c .before .width-of .ensures)
-    (between (λ k. task Change (cond (eqb k 2) Word Double) false (k - 1) ≡ taskOf k) 2 2 (refl, (refl, tt)) (c .before .before .before .before .args .id) (omega arith) (omega arith))
+    (between (λ k. taskRow Change (cond (eqb k 2) Word Double) false (k - 1) ≡ taskOf k) 2 2 (refl, (refl, tt)) (c .before .before .before .before .args .id) (omega arith) (omega arith))
 
 returns-6 : tie.Need-returns-6
 unfolding taskOf tasks
 returns-6 c =
     c .row6 .ensures
     ∙ rw (c .before .width-of2 .ensures)
-    (between (λ k. task Change (cond (eqb k 7) Word Double) true (k - 3) ≡ taskOf k) 2 7 (refl, (refl, tt)) (c .before .before .before .before .before .before .args .id) (omega arith) (omega arith))
+    (between (λ k. taskRow Change (cond (eqb k 7) Word Double) true (k - 3) ≡ taskOf k) 2 7 (refl, (refl, tt)) (c .before .before .before .before .before .before .args .id) (omega arith) (omega arith))
 
 returns-7 : tie.Need-returns-7
 unfolding taskOf tasks
 returns-7 c =
     c .row7 .ensures
     ∙ rw (c .before .width-of3 .ensures)
-    (between (λ k. task Change (cond (eqb k 12) Word Double) true (16 - k) ≡ taskOf k) 2 11 (refl, (refl, tt)) (c .before .before .before .before .before .before .before .before .args .id) (omega arith) (omega arith))
+    (between (λ k. taskRow Change (cond (eqb k 12) Word Double) true (16 - k) ≡ taskOf k) 2 11 (refl, (refl, tt)) (c .before .before .before .before .before .before .before .before .args .id) (omega arith) (omega arith))
 
 returns-8 : tie.Need-returns-8
 unfolding taskOf tasks
 returns-8 c =
     c .row8 .ensures
     ∙ rw (c .before .width-of4 .ensures)
-    (between (λ k. task Change (cond (eqb k 14) Word Double) false (15 - k) ≡ taskOf k) 2 13 (refl, (refl, tt)) (c .before .before .before .before .before .before .before .before .before .args .id) (omega arith) (omega arith))
+    (between (λ k. taskRow Change (cond (eqb k 14) Word Double) false (15 - k) ≡ taskOf k) 2 13 (refl, (refl, tt)) (c .before .before .before .before .before .before .before .before .before .args .id) (omega arith) (omega arith))
 
 returns-9 : tie.Need-returns-9
 unfolding taskOf tasks
 returns-9 c =
     let i = c .before .before .before .before .args .id in
     c .row9 .ensures
-    ∙ ⊎-elim (λ w. between (λ k. refused ≡ taskOf k) 2 4 (refl, (refl, tt)) i (omega arith) (omega arith))
+    ∙ ⊎-elim (λ w. between (λ k. noTask ≡ taskOf k) 2 4 (refl, (refl, tt)) i (omega arith) (omega arith))
     (⊎-elim (λ w. let e : i ≡ 10 = omega arith in rw e) (λ w. sym (refused-on i (omega arith))))
     (c .before .if2 .came)
 
