@@ -9,21 +9,20 @@
 use mathlib.Core.Path.{_≡_, refl, sym, ap, _∙_}
 use mathlib.Core.List.{List}
 use mathlib.Core.Logic.{_↔_}
-use Prim.Native.Nat.{ℕ, _+_, _*_, _/_, _%_, _^_, _≤_, _<_}
+use Prim.Native.Nat.{ℕ, _+_, _*_, _/_, _%_, _^_, _<_}
 use native.Mathlib.Nat.{zero-div}
 use native.Mathlib.Omega.{arith}
 use borrow.Author.Tests.{le-ltb, eq-eqb, ne-eqb}
 use lib.Bits.{bitXor, xor-self, xor-zero-r}
-use lib.Dec.{lit≤}
 use lib.ListN.{length, take}
 use Rattle.rows.specs.Bits.{bit}
 use Rattle.words.specs.Words.{byteAt}
 use Rattle.frame.specs.Bcc.{xorAll}
-use Rattle.frame.specs.Frame.{frameOf, lastOf, isSound, frameNumber}
-use Rattle.frame.specs.declared.FrameFault.{FrameFault}
-use Rattle.frame.specs.declared.FrameFault.the-variants.{Short, Start, Length, Count, Check}
+use Rattle.frame.specs.Frame.{frameOf, lastOf, isSound}
+use Rattle.frame.specs.declared.FrameFault.the-variants.{Count}
 use Rattle.frame.specs.declared.FrameCheck.{FrameCheck}
 use Rattle.frame.specs.declared.FrameCheck.the-variants.{Sound, Broken}
+use Rattle.frame.proofs.NumberLaws.{frame-between}
 use Rattle.frame.proofs.XorLaws.{xor-snoc, xor-all-lt, xor-eq, xor-fix, length-zip, getD-zip, xor-zip}
 use Rattle.frame.proofs.FrameLaws.{split-last, Counted, sound-framed, framed-sound}
 use Rattle.claims_damage.specs.Damage.{damaged, Damage, flips, Passes, Refuses, Unseen, Hit, OneByte, bitAt, Order, Burst}
@@ -93,16 +92,9 @@ exact t f d = (passing-unseen t f d, unseen-passes t f d)
 pub not-passing-refused : (t : List ℕ) → (Passes t → ⊥) → Refuses t
 not-passing-refused t never = go (frameOf t) refl
   where
-    numbered : (k : FrameFault) → (10 ≤ frameNumber k) × (frameNumber k ≤ 14)
-    numbered Short = (lit≤ tt, lit≤ tt)
-    numbered Start = (lit≤ tt, lit≤ tt)
-    numbered Length = (lit≤ tt, lit≤ tt)
-    numbered Count = (lit≤ tt, lit≤ tt)
-    numbered Check = (lit≤ tt, lit≤ tt)
-
     go : (r : FrameCheck) → frameOf t ≡ r → Refuses t
     go (Sound end) e = absurd (never (ap isSound e))
-    go (Broken k) e = record { fault = k; answer = e; least = numbered k .0; most = numbered k .1 }
+    go (Broken k) e = record { fault = k; answer = e; least = frame-between k .0; most = frame-between k .1 }
 
 -- ---- what is always seen
 

@@ -6,6 +6,7 @@ use Prim.Native.Nat.{ℕ, _+_, _%_, _≤_, _<_}
 use borrow.Author.Tests.{eqb-false, leb-true}
 use lib.Dec.{eqb}
 use lib.ListN.{getD}
+use Rattle.setup.proofs.SetupLaws.{Wide}
 use Rattle.setup.specs.declared.Setup.{Setup}
 use Rattle.entry.specs.Fields.{countOf}
 use Rattle.entry.specs.Limits.{fitsIn, isWithin}
@@ -31,7 +32,7 @@ use Rattle.task.proofs.VerdictLaws.{granted-clear}
 use Rattle.request.specs.Request.{valueFits}
 use Rattle.slave.specs.Perform.{carried, verdictFor, performOn, performFound, foundOf, idle, performTask}
 use Rattle.slave.proofs.PerformLaws.{granted-element, task-denied, task-granted}
-use Rattle.claims_master.proofs.SuitLaws.{Wide, Answers, error-answers, RowOf, task-row, Valued, done-answers}
+use Rattle.claims_master.proofs.SuitLaws.{Answers, error-answers, RowOf, task-row, Valued, done-answers}
 
 -- ---- a task on a record of a table that passed
 

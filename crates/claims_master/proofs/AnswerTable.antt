@@ -10,7 +10,6 @@ use lib.Dec.{ltb, eqb}
 use lib.ListN.{length}
 use Rattle.rows.specs.Rows.{firstOf, Chosen}
 use Rattle.rows.proofs.RowsLaws.{first-chosen, readRows, first-read}
-use Rattle.words.specs.declared.Words.{Words}
 use Rattle.setup.specs.declared.Setup.{Setup}
 use Rattle.setup.specs.SetupRules.{setupOk, netBytes}
 use Rattle.frame.specs.Frame.{lastOf, frameRows, frameOf}
@@ -33,7 +32,7 @@ use Rattle.reply.specs.declared.ReadAnswer.the-variants.{Read}
 use Rattle.reply.specs.declared.ReadFault.the-variants.{UnfitSetup, NotAsked, OtherNode, OtherLength, NotTheReply}
 use Rattle.reply.specs.declared.Content.the-variants.{Empty}
 use Rattle.reply.specs.declared.Reading.{Reading}
-use Rattle.reply.specs.Reply.{readNumber, badReply, replyContent, zeroWords, unreadOf, readNormal, readDecoded, readTask, readRequest, readOf}
+use Rattle.reply.specs.Reply.{readNumber, badReply, replyContent, zeroWords, unreadOf, readNormal, readDecoded, readTask, readOf}
 use Rattle.claims_master.specs.AnswerTable.{buildRows, readingRows}
 
 -- ---- builds

@@ -1,19 +1,19 @@
 -- Each slave with the same areas takes a broadcast as it was asked. Assumes nothing.
 use mathlib.Core.Path.{_≡_, refl, ap, _∙_}
-use mathlib.Core.Logic.{_⊎_, inl, inr}
+use mathlib.Core.Logic.{inl, inr}
 use mathlib.Core.Bool.{true, false, not}
 use mathlib.Core.List.{List}
 use Prim.Native.Nat.{ℕ, _+_, _-_, _*_, _/_, _%_, _<_}
 use native.Mathlib.Omega.{arith}
-use borrow.Author.Tests.{eqb-true, eqb-false, not-true, not-false}
-use lib.Dec.{eqb, lit<, lit≤}
+use borrow.Author.Tests.{not-true}
+use lib.Dec.{lit<, lit≤}
 use lib.ListN.{length, getD}
 use Rattle.rows.proofs.BoolLaws.{and-left}
 use Rattle.words.specs.Words.{wordAt}
 use Rattle.words.specs.declared.Words.{Words}
 use Rattle.setup.specs.declared.Setup.{Setup}
 use Rattle.setup.specs.SetupRules.{setupOk, netBytes}
-use Rattle.setup.proofs.SetupLaws.{Configured, ok-configured}
+use Rattle.setup.proofs.SetupLaws.{Configured, ok-configured, Wide, area-wide}
 use Rattle.frame.specs.Address.{decodedOf, kindOf}
 use Rattle.frame.specs.declared.Address.{Address}
 use Rattle.frame.specs.declared.Decoded.the-variants.{Broadcast as BroadcastTelegram}
@@ -37,11 +37,10 @@ use Rattle.slave.proofs.CaseLaws.{executed, broadcast-taken}
 use Rattle.master.specs.Build.{commandArea, telegramFor}
 use Rattle.claims_master.specs.Claims.{BroadcastRead}
 use Rattle.claims_master.proofs.SentLaws.{net-count, net-some, net-fits}
-use Rattle.claims_master.proofs.CarriedLaws.{area-words}
 
 -- the words of a command's area
 module _ (adr selector mask1 mask2 : ℕ) (w : Words) (pzd : ℕ) where
-  command-words : (n : ℕ) → (n ≡ 3) ⊎ (n ≡ 4) → mask2 < 65536 → Headed (commandArea n selector mask1 mask2) → Worded w
+  command-words : (n : ℕ) → Wide n → mask2 < 65536 → Headed (commandArea n selector mask1 mask2) → Worded w
       → commandAt (telegramOf adr (netOf (commandArea n selector mask1 mask2) n w pzd)) n ≡ commandOf selector mask1 mask2
   unfolding commandArea commandAt
   command-words n (inl e) m h g =
@@ -83,7 +82,7 @@ broadcast-read s selector mask1 mask2 process c v m1 m2 g =
     let d : decodedOf rx ≡ BroadcastTelegram =
     telegram-decoded 32 (netOf a (s .pkw) process (s .pzd)) (net-some s c a process) (net-fits s c a process)
     ∙ ap (λ (x : Address). kindOf x (length (netOf a (s .pkw) process (s .pzd)) + 3)) to-all in
-    let said = command-words 32 selector mask1 mask2 process (s .pzd) (s .pkw) (area-words s c (f .areas)) m2 h g in
+    let said = command-words 32 selector mask1 mask2 process (s .pzd) (s .pkw) (area-wide s c (f .areas)) m2 h g in
     let words : (old : Words) → processAt rx (s .pkw) (s .pzd) old ≡ firstWords (s .pzd) process old =
     λ old. process-back 32 a (s .pkw) process (s .pzd) old h g (c .process) in
     let some : 0 < s .pzd = let n = f .process in omega arith in

@@ -6,7 +6,7 @@ use Prim.Native.Nat.{ℕ, _-_, _^_, _≤_, _<_}
 use native.Mathlib.Omega.{arith}
 use borrow.Author.Tests.{eqb-true, leb-true}
 use Rattle.setup.specs.declared.Setup.{Setup}
-use Rattle.setup.proofs.SetupLaws.{Configured}
+use Rattle.setup.proofs.SetupLaws.{Configured, Wide, area-wide}
 use Rattle.net.proofs.ReadLaws.{Headed}
 use Rattle.task.specs.declared.Act.{Act}
 use Rattle.task.specs.declared.Act.the-variants.{Nothing, Read, Change, Count, Refuse}
@@ -29,16 +29,8 @@ word-carried Change Double v e = absurd (false≢true e)
 word-carried Count width v e = omega (arith, eqb-true v 0 e)
 word-carried Refuse width v e = absurd (false≢true e)
 
--- an area is of three or four words
-pub area-words : (s : Setup) → Configured s → (s .pkw ≡ 0 → ⊥) → (s .pkw ≡ 3) ⊎ (s .pkw ≡ 4)
-area-words s c h = go (c .areas)
-  where
-    go : (s .pkw ≡ 0) ⊎ ((s .pkw ≡ 3) ⊎ (s .pkw ≡ 4)) → (s .pkw ≡ 3) ⊎ (s .pkw ≡ 4)
-    go (inl e) = absurd (h e)
-    go (inr e) = e
-
 -- the value fits the words that are left for it
-pub value-fits : (n v : ℕ) → (n ≡ 3) ⊎ (n ≡ 4) → (n ≡ 3 → v < 65536) → v < 4294967296 → v < 65536 ^ (n - 2)
+pub value-fits : (n v : ℕ) → Wide n → (n ≡ 3 → v < 65536) → v < 4294967296 → v < 65536 ^ (n - 2)
 value-fits n v (inl e) h g =
     let f : v < 65536 = h e in
     rw e f
@@ -69,7 +61,7 @@ carried-of s id number index value c h v = go (task-asked (s .pkw) id number ind
           numbers = omega (arith, e .1 .number-none);
           indices = i;
           heads = heads-of i;
-          fits = λ p. value-fits (s .pkw) value (area-words s c p) (λ q. omega (arith, e .1 .value-none)) v;
+          fits = λ p. value-fits (s .pkw) value (area-wide s c p) (λ q. omega (arith, e .1 .value-none)) v;
         }
     go (inr a) =
         let i : index < 256 = omega (arith, a .indices) in
@@ -78,5 +70,5 @@ carried-of s id number index value c h v = go (task-asked (s .pkw) id number ind
           numbers = a .numbers;
           indices = i;
           heads = heads-of i;
-          fits = λ p. value-fits (s .pkw) value (area-words s c p) (λ q. word-carried (taskOf id .act) (taskOf id .width) value (rw q at (a .values))) v;
+          fits = λ p. value-fits (s .pkw) value (area-wide s c p) (λ q. word-carried (taskOf id .act) (taskOf id .width) value (rw q at (a .values))) v;
         }

@@ -12,7 +12,7 @@ use Rattle.rows.proofs.BoolLaws.{and-left}
 use Rattle.words.specs.declared.Words.{Words}
 use Rattle.setup.specs.declared.Setup.{Setup}
 use Rattle.setup.specs.SetupRules.{netBytes}
-use Rattle.setup.proofs.SetupLaws.{Configured, ok-configured}
+use Rattle.setup.proofs.SetupLaws.{Configured, ok-configured, area-wide}
 use Rattle.frame.specs.declared.Decoded.{Decoded}
 use Rattle.opening.specs.declared.Opening.the-variants.{Passed}
 use Rattle.opening.specs.Answers.{openingOf}
@@ -35,7 +35,7 @@ use Rattle.reply.specs.declared.ReadAnswer.the-variants.{Read}
 use Rattle.reply.specs.Reply.{replyContent, zeroWords, readNormal, readDecoded, readTask, readOf}
 use Rattle.claims_master.specs.Claims.{ReplyRead}
 use Rattle.claims_master.proofs.SentLaws.{normal-decoded}
-use Rattle.claims_master.proofs.CarriedLaws.{area-words, CarriedTask, carried-of}
+use Rattle.claims_master.proofs.CarriedLaws.{CarriedTask, carried-of}
 use Rattle.claims_master.proofs.TaskIsRead.{normal-area, task-is-read}
 use Rattle.claims_master.proofs.ReplyLaws.{Replies, empty-replies, suited-replies, reply-echoes}
 use Rattle.claims_master.proofs.AnswerLaws.{task-answers}
@@ -105,9 +105,9 @@ performed-replies s t vs room id number index value c passed some fits v small =
         let none : performTask (s .pkw) (taskOf id) t vs (taskArea id number index value) .area ≡ emptyArea =
         ap (λ (k : ℕ). performTask (s .pkw) (taskOf k) t vs (taskArea id number index value) .area) (e .0)
         ∙ task-idle-zero (s .pkw) t vs (taskArea id number index value) in
-        rw none (empty-replies (s .pkw) id number index (area-words s c some) (e .0))
+        rw none (empty-replies (s .pkw) id number index (area-wide s c some) (e .0))
     go (inr q) =
-        let r = task-answers s t vs room id (taskArea id number index value) passed (area-words s c some) (f .id-few) (q .values) v (named-back id number) small in
+        let r = task-answers s t vs room id (taskArea id number index value) passed (area-wide s c some) (f .id-few) (q .values) v (named-back id number) small in
         let is = r .is ∙ reply-echoes id number index value (r .reply-id) (r .content) (f .numbers) (f .indices) in
         rw is (suited-replies (s .pkw) id number index (r .reply-id) (r .content) (q .some) (f .numbers) (f .indices) (r .suits))
 

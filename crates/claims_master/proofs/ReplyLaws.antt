@@ -1,11 +1,12 @@
 -- What a parameter area must be to be read as the reply to a task. Assumes nothing.
 use mathlib.Core.Path.{_≡_, refl, sym, ap, _∙_}
-use mathlib.Core.Logic.{_⊎_, inl, inr}
+use mathlib.Core.Logic.{inl, inr}
 use mathlib.Core.Bool.{Bool, true, false, _||_, cond}
 use Prim.Native.Nat.{ℕ, _+_, _-_, _*_, _/_, _%_, _^_, _≤_, _<_}
 use native.Mathlib.Omega.{arith}
 use borrow.Author.Tests.{eq-eqb, ne-eqb, eqb-true, ltb-false}
 use lib.Dec.{eqb, lit<}
+use Rattle.setup.proofs.SetupLaws.{Wide}
 use Rattle.net.specs.declared.Area.{Area}
 use Rattle.net.specs.Read.{emptyArea}
 use Rattle.net.proofs.ReadLaws.{Headed}
@@ -35,7 +36,7 @@ pub record Suits (n : ℕ) (act : Act) (reply replyId v : ℕ) : Type 0 where
   pub few : replyId ≤ 7
 
 -- task 0
-pub empty-replies : (n id number index : ℕ) → (n ≡ 3) ⊎ (n ≡ 4) → id ≡ 0 → Replies n id number index emptyArea
+pub empty-replies : (n id number index : ℕ) → Wide n → id ≡ 0 → Replies n id number index emptyArea
 unfolding badReply notEmpty replyContent
 empty-replies n id number index w e = record {
   heads = record { pke-word = lit< tt; ind-word = lit< tt };
@@ -46,7 +47,7 @@ empty-replies n id number index w e = record {
   not-8 = λ q. omega arith;
 }
   where
-    zero-fits : (n ≡ 3) ⊎ (n ≡ 4) → 0 < 65536 ^ (n - 2)
+    zero-fits : Wide n → 0 < 65536 ^ (n - 2)
     zero-fits (inl q) = rw q (lit< tt)
     zero-fits (inr q) = rw q (lit< tt)
 

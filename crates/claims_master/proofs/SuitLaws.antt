@@ -9,6 +9,7 @@ use native.Mathlib.Nat.{add-zero}
 use borrow.Author.Tests.{eq-eqb, eqb-false, le-ltb, not-true, ne-eqb}
 use lib.Dec.{eqb, ltb, lit≤}
 use lib.ListN.{getD}
+use Rattle.setup.proofs.SetupLaws.{Wide}
 use Rattle.rows.proofs.BoolLaws.{or-first, or-second}
 use Rattle.rows.proofs.RangeLaws.{between}
 use Rattle.net.specs.declared.Area.{Area}
@@ -27,10 +28,6 @@ use Rattle.claims_master.proofs.ReplyLaws.{Suits}
 use Rattle.claims_master.proofs.CarriedLaws.{value-fits}
 
 -- ---- reply IDs and values that suit
-
--- an area of three or four words
-abbrev pub Wide : ℕ → Type 0
-Wide n = (n ≡ 3) ⊎ (n ≡ 4)
 
 -- the area p is a reply to the area a
 pub record Answers (n : ℕ) (act : Act) (reply : ℕ) (a p : Area) : Type 0 where

@@ -1,6 +1,6 @@
 -- A slave of the same set-up reads a task telegram as the task that was asked. Assumes nothing.
 use mathlib.Core.Path.{_≡_, refl, ap, _∙_}
-use mathlib.Core.Logic.{_⊎_, inl, inr}
+use mathlib.Core.Logic.{inl, inr}
 use mathlib.Core.Bool.{Bool, true, false, not, _&&_, cond}
 use mathlib.Core.List.{List}
 use Prim.Native.Nat.{ℕ, _+_, _-_, _*_, _/_, _%_, _^_, _≤_, _<_}
@@ -11,7 +11,7 @@ use Rattle.rows.proofs.BoolLaws.{and-left}
 use Rattle.words.specs.declared.Words.{Words}
 use Rattle.setup.specs.declared.Setup.{Setup}
 use Rattle.setup.specs.SetupRules.{setupOk, netBytes}
-use Rattle.setup.proofs.SetupLaws.{Configured, ok-configured, area-few}
+use Rattle.setup.proofs.SetupLaws.{Configured, ok-configured, area-few, Wide, area-wide}
 use Rattle.frame.specs.Address.{decodedOf}
 use Rattle.frame.specs.declared.Decoded.the-variants.{Normal}
 use Rattle.net.specs.declared.Area.{Area}
@@ -28,14 +28,14 @@ use Rattle.slave.proofs.CaseLaws.{executed, normal-replied}
 use Rattle.master.specs.Build.{taskArea, telegramFor}
 use Rattle.claims_master.specs.Claims.{TaskRead}
 use Rattle.claims_master.proofs.SentLaws.{normal-decoded}
-use Rattle.claims_master.proofs.CarriedLaws.{area-words, CarriedTask, carried-of}
+use Rattle.claims_master.proofs.CarriedLaws.{CarriedTask, carried-of}
 
 -- an area of three or four words comes back
 pub normal-area : (s : Setup) (c : Configured s) (a : Area) (w : Words) → Headed a → Worded w → (s .pkw ≡ 0 → ⊥) → a .value < 65536 ^ (s .pkw - 2)
     → areaAt (telegramOf (s .node) (netOf a (s .pkw) w (s .pzd))) (s .pkw) ≡ a
-normal-area s c a w h g p fits = area-back (s .node) a (s .pkw) w (s .pzd) h g (two (area-words s c p)) (area-few s c) fits
+normal-area s c a w h g p fits = area-back (s .node) a (s .pkw) w (s .pzd) h g (two (area-wide s c p)) (area-few s c) fits
   where
-    two : (s .pkw ≡ 3) ⊎ (s .pkw ≡ 4) → 2 ≤ s .pkw
+    two : Wide (s .pkw) → 2 ≤ s .pkw
     two (inl e) = omega arith
     two (inr e) = omega arith
 

@@ -6,18 +6,17 @@ use mathlib.Core.Path.{_≡_, refl, sym, ap, _∙_}
 use mathlib.Core.Bool.{Bool, true, false, false≢true}
 use mathlib.Core.List.{List}
 use borrow.Author.Tests.{eqb-true}
+use native.Mathlib.Omega.{arith}
 use lib.Dec.{eqb, lit<}
 use lib.ListN.{length}
 use Rattle.words.specs.declared.Words.{Words}
 use Rattle.setup.specs.declared.Setup.{Setup}
-use Rattle.frame.specs.Address.{decodedOf, faultNumber}
-use Rattle.frame.specs.declared.Fault.{Fault}
-use Rattle.frame.specs.declared.Fault.the-variants.{InFrame, InAddress}
-use Rattle.frame.specs.declared.FrameFault.the-variants.{Short, Start, Length, Count, Check}
+use Rattle.frame.specs.Address.{decodedOf}
 use Rattle.frame.specs.Frame.{lastOf}
 use Rattle.frame.specs.declared.Decoded.{Decoded}
 use Rattle.frame.specs.declared.Decoded.the-variants.{Normal, Mirror, Broadcast, Refused as Unread}
 use Rattle.frame.proofs.DecodedLaws.{normal-bounds}
+use Rattle.frame.proofs.NumberLaws.{fault-between}
 use Rattle.opening.specs.Answers.{openingOf}
 use Rattle.opening.specs.declared.OpeningFault.{OpeningFault}
 use Rattle.opening.specs.declared.Opening.{Opening}
@@ -27,15 +26,6 @@ use Rattle.slave.specs.declared.Refusal.the-variants.{AtOpening, InTelegram, Ot
 use Rattle.setup.specs.SetupRules.{netBytes}
 use Rattle.slave.specs.Slave.{Outcome, refusalNumber, refusedOf, normalOutcome, normalCase, mirrorOutcome, mirrorCase, voidIn, takenOutcome, broadcastCase, executeDecoded, callOf}
 use Rattle.slave.proofs.CaseLaws.{executed, called}
-
--- the numbers 10 to 15
-fault-small : (f : Fault) → faultNumber f < 20
-fault-small (InFrame Short) = lit< tt
-fault-small (InFrame Start) = lit< tt
-fault-small (InFrame Length) = lit< tt
-fault-small (InFrame Count) = lit< tt
-fault-small (InFrame Check) = lit< tt
-fault-small InAddress = lit< tt
 
 abbrev isPassed : Opening → Bool
 isPassed Passed = true
@@ -90,7 +80,7 @@ module _ (s : Setup) (t vs : List ℕ) (control status : Words) (rx out : List �
           (λ n l. replied o (e ∙ rw (n, b .0, b .1)) (sym (rw (b .0, b .1) refl) ∙ l))
       decoded-at o (Mirror node) e = mirror-cases P (λ r b. refused r (λ o. b)) node (λ n. mirrored o (e ∙ ap Mirror n))
       decoded-at o Broadcast e = broadcast-cases P (λ r b. refused r (λ o. b)) (taken o e)
-      decoded-at o (Unread fault) e = refused (InTelegram fault) (λ p. fault-small fault)
+      decoded-at o (Unread fault) e = refused (InTelegram fault) (λ p. omega (arith, fault-between fault .1))
 
       opened-at : (o : Opening) → openingOf s t vs (length out) ≡ o → P (callOf s t vs control status rx out)
       opened-at (Closed fault) e = rw (called s t vs control status rx out (Closed fault) e) (refused (AtOpening fault) (λ p. absurd (not-closed fault (sym p ∙ e))))

@@ -25,7 +25,6 @@ use Rattle.opening.specs.declared.Opening.the-variants.{Passed}
 use Rattle.opening.proofs.AnswersLaws.{passed-opened}
 use Rattle.opening.proofs.KeptLaws.{change-keeps-opening}
 use Rattle.net.specs.declared.Area.{Area}
-use Rattle.net.specs.Net.{netOf}
 use Rattle.net.specs.Read.{areaAt}
 use Rattle.net.proofs.NetLaws.{length-normal}
 use Rattle.net.proofs.SealLaws.{written-long}

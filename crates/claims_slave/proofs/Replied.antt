@@ -4,7 +4,7 @@
 --     change-stored       a granted change stores the value that it carries at the place that it means, and nowhere else
 --     control-replaced    with bit 10, the first PZD control words are those received
 --     taken-runs          after a broadcast that is taken, bit 10 of the first control word is 1
-use Prim.Native.Nat.{ℕ, _+_, _/_, _%_, _<_}
+use Prim.Native.Nat.{ℕ, _+_, _/_, _<_}
 use mathlib.Core.Path.{_≡_, refl, sym, ap, _∙_}
 use mathlib.Core.Bool.{false}
 use mathlib.Core.List.{List}

@@ -14,12 +14,12 @@ use Rattle.text.proofs.DigitsLaws.{length-digits}
 use Rattle.store.proofs.StoreLaws.{put-front, put-length, put-within}
 use Rattle.frame.specs.Frame.{frameOf, lastOf}
 use Rattle.frame.specs.Address.{addressRows, addressOf, kindOf, decodedFrom, faultNumber}
-use Rattle.frame.specs.declared.FrameFault.the-variants.{Short, Start, Length, Count, Check}
 use Rattle.frame.specs.declared.FrameCheck.{FrameCheck}
 use Rattle.frame.specs.declared.FrameCheck.the-variants.{Sound, Broken}
 use Rattle.frame.specs.declared.Address.{Address}
 use Rattle.frame.specs.declared.Address.the-variants.{ToOne, ToMirror, ToAll, ToNone}
 use Rattle.frame.specs.declared.Fault.{Fault}
+use Rattle.frame.proofs.NumberLaws.{fault-between}
 use Rattle.frame.specs.declared.Fault.the-variants.{InFrame, InAddress}
 use Rattle.listing.specs.Listing.{goodPieces, refusedPieces, goodText, piecesOf, listing, listedOf}
 
@@ -62,16 +62,8 @@ refused-most t n fault =
       arith,
       refused-size (length t) (faultNumber fault),
       length-digits 2 (length t) (omega arith),
-      length-digits 1 (faultNumber fault) (two fault),
+      length-digits 1 (faultNumber fault) (omega (arith, fault-between fault .1)),
     )
-  where
-    two : (fault : Fault) → faultNumber fault < 100
-    two (InFrame Short) = lit< tt
-    two (InFrame Start) = lit< tt
-    two (InFrame Length) = lit< tt
-    two (InFrame Count) = lit< tt
-    two (InFrame Check) = lit< tt
-    two InAddress = lit< tt
 
 -- 64 bytes hold every listing
 pub listing-most : (t : List ℕ) → Bytes t → length t ≤ 300 → length (listing t) ≤ 64

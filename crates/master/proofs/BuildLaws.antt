@@ -15,7 +15,7 @@ use Rattle.master.specs.declared.BuildFault.{BuildFault}
 use Rattle.master.specs.declared.BuildFault.the-variants.{BadSetup, NotExpressible, ShortBuffer}
 use Rattle.master.specs.declared.BuildAnswer.{BuildAnswer}
 use Rattle.master.specs.declared.BuildAnswer.the-variants.{Done, Refused}
-use Rattle.master.specs.Build.{BuildOutcome, Builds, Sends, telegramFor, unbuilt, sent, outcomeOf, admitted, builtOf}
+use Rattle.master.specs.Build.{Builds, Sends, telegramFor, unbuilt, sent, outcomeOf, admitted, builtOf}
 
 abbrev isDone : BuildAnswer → Bool
 isDone Done = true

@@ -61,14 +61,11 @@ task-asked pkw id number index value h = go (eqb id 0) refl h
         let ab = and-left (a && b) c abc in
         inr (record {
           some = eqb-false id 0 e;
-          area = eqb-false pkw 0 (un-not (eqb pkw 0) (and-left a b ab));
-          numbers = ltb-false 31999 number (un-not (ltb 31999 number) (and-right a b ab));
-          indices = ltb-false 254 index (un-not (ltb 254 index) (and-right (a && b) c abc));
+          area = eqb-false pkw 0 (not-true (eqb pkw 0) (and-left a b ab));
+          numbers = ltb-false 31999 number (not-true (ltb 31999 number) (and-right a b ab));
+          indices = ltb-false 254 index (not-true (ltb 254 index) (and-right (a && b) c abc));
           values = and-right (a && b && c) d f;
         })
-      where
-        un-not : (t : Bool) → not t ≡ true → t ≡ false
-        un-not t q = not-true t q
 
 -- a task ID that can be asked is below 15
 pub asked-id : (pkw id number index value : ℕ) → taskFits pkw id number index value ≡ true → id < 15

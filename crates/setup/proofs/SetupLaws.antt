@@ -10,18 +10,22 @@ use Rattle.rows.proofs.BoolLaws.{or-left, or-right}
 use Rattle.setup.specs.declared.Setup.{Setup}
 use Rattle.setup.specs.SetupRules.{setupBad, setupOk}
 
+-- an area of three or four words
+abbrev pub Wide : ℕ → Type 0
+Wide n = (n ≡ 3) ⊎ (n ≡ 4)
+
 -- the facts of a set-up that may be used
 pub record Configured (s : Setup) : Type 0 where
   pub nodes : s .node ≤ 31
-  pub areas : (s .pkw ≡ 0) ⊎ ((s .pkw ≡ 3) ⊎ (s .pkw ≡ 4))
+  pub areas : (s .pkw ≡ 0) ⊎ Wide (s .pkw)
   pub process : s .pzd ≤ 4
   pub some : 0 < s .pkw + s .pzd
 
 -- one of three tests held
-one-held : (x : ℕ) → (eqb x 0 || eqb x 3 || eqb x 4) ≡ true → (x ≡ 0) ⊎ ((x ≡ 3) ⊎ (x ≡ 4))
+one-held : (x : ℕ) → (eqb x 0 || eqb x 3 || eqb x 4) ≡ true → (x ≡ 0) ⊎ Wide x
 one-held x e = go (eqb x 0) (eqb x 3) (eqb x 4) refl refl refl e
   where
-    go : (a b c : Bool) → eqb x 0 ≡ a → eqb x 3 ≡ b → eqb x 4 ≡ c → (a || b || c) ≡ true → (x ≡ 0) ⊎ ((x ≡ 3) ⊎ (x ≡ 4))
+    go : (a b c : Bool) → eqb x 0 ≡ a → eqb x 3 ≡ b → eqb x 4 ≡ c → (a || b || c) ≡ true → (x ≡ 0) ⊎ Wide x
     go true b c p q r h = inl (eqb-true x 0 p)
     go false true c p q r h = inr (inl (eqb-true x 3 q))
     go false false true p q r h = inr (inr (eqb-true x 4 r))
@@ -54,7 +58,7 @@ ok-configured s e =
     }
 
 -- the same test of numbers
-ok-of : (n p z : ℕ) → n ≤ 31 → (p ≡ 0) ⊎ ((p ≡ 3) ⊎ (p ≡ 4)) → z ≤ 4 → 0 < p + z
+ok-of : (n p z : ℕ) → n ≤ 31 → (p ≡ 0) ⊎ Wide p → z ≤ 4 → 0 < p + z
     → not (ltb 31 n || not (eqb p 0 || eqb p 3 || eqb p 4) || ltb 4 z || eqb p 0 && eqb z 0) ≡ true
 ok-of n p z a (inl e) c d =
     let y : z ≡ 0 → ⊥ = λ q. omega arith in
@@ -70,16 +74,22 @@ configured-passes s f = ok-of (s .node) (s .pkw) (s .pzd) (f .nodes) (f .areas) 
 pub area-few : (s : Setup) → Configured s → s .pkw ≤ 4
 area-few s f = go (f .areas)
   where
-    go : (s .pkw ≡ 0) ⊎ ((s .pkw ≡ 3) ⊎ (s .pkw ≡ 4)) → s .pkw ≤ 4
+    go : (s .pkw ≡ 0) ⊎ Wide (s .pkw) → s .pkw ≤ 4
     go (inl e) = omega arith
     go (inr (inl e)) = omega arith
     go (inr (inr e)) = omega arith
 
 -- a parameter area has 3 or 4 words
-pub area-words : (s : Setup) → Configured s → (s .pkw ≡ 0 → ⊥) → (3 ≤ s .pkw) × (s .pkw ≤ 4)
-area-words s c h = go (c .areas)
+pub area-wide : (s : Setup) → Configured s → (s .pkw ≡ 0 → ⊥) → Wide (s .pkw)
+area-wide s c h = go (c .areas)
   where
-    go : (s .pkw ≡ 0) ⊎ ((s .pkw ≡ 3) ⊎ (s .pkw ≡ 4)) → (3 ≤ s .pkw) × (s .pkw ≤ 4)
+    go : (s .pkw ≡ 0) ⊎ Wide (s .pkw) → Wide (s .pkw)
     go (inl z) = absurd (h z)
-    go (inr (inl t)) = (omega arith, omega arith)
-    go (inr (inr f)) = (omega arith, omega arith)
+    go (inr w) = w
+
+wide-between : (n : ℕ) → Wide n → (3 ≤ n) × (n ≤ 4)
+wide-between n (inl e) = (omega arith, omega arith)
+wide-between n (inr e) = (omega arith, omega arith)
+
+pub area-words : (s : Setup) → Configured s → (s .pkw ≡ 0 → ⊥) → (3 ≤ s .pkw) × (s .pkw ≤ 4)
+area-words s c h = wide-between (s .pkw) (area-wide s c h)

@@ -10,7 +10,7 @@ use Rattle.task.specs.declared.Act.{Act}
 use Rattle.task.specs.declared.Width.{Width}
 use Rattle.task.specs.declared.Verdict.{Verdict}
 use Rattle.task.specs.declared.Verdict.the-variants.{Granted, Denied}
-use Rattle.task.specs.Verdict.{refusesAct, changesAct, countsAct, lacksArray, lacksElement, differsWidth, lacksRoom, verdictRows, verdictOf}
+use Rattle.task.specs.Verdict.{changesAct, countsAct, lacksElement, lacksRoom, verdictRows, verdictOf}
 
 isGranted : Verdict → Bool
 isGranted Granted = true

@@ -1,6 +1,6 @@
 -- `net::write_normal` meets its contract: the areas are written one after the other, and the telegram is closed. Assumes nothing.
 use native.Mathlib.Omega.{arith}
-use Prim.Native.Nat.{ℕ, _+_, _*_, _/_, _%_, _≤_, _<_}
+use Prim.Native.Nat.{_+_, _*_, _/_, _%_, _≤_, _<_}
 use lib.Bits.{bitXor, xor-lt}
 use lib.ListN.{length, take, drop}
 use mathlib.Core.Path.{_≡_, _∙_, sym, ap}
