@@ -1,6 +1,6 @@
 -- The known telegrams of document 01 ("Telegrams to prove and to run"), each as what the definitions give beside what the
 -- document says. Slave and master have four parameter words in all of them.
---     known        the list, K1 to K12 in order
+--     known        the list, K1 to K12 in order; k1-first to k12 are its cases, each under its K number
 use Prim.Native.Nat.{ℕ, _/_, _%_}
 use mathlib.Core.List.{List, [], _∷_}
 use lib.ListN.{replicate, take}
@@ -9,7 +9,7 @@ use Rattle.net.specs.declared.Area.{Area}
 use Rattle.net.specs.Net.{wordsOf}
 use Rattle.net.specs.Telegram.{telegramOf}
 use Rattle.slave.specs.Perform.{performOf}
-use Rattle.slave.specs.Slave.{Outcome, answerNumber, callOf}
+use Rattle.slave.specs.Slave.{Outcome, sentBy, answerNumber, callOf}
 use Rattle.request.specs.declared.Request.{Request}
 use Rattle.master.specs.Build.{builtNumber, taskArea, builtOf}
 use Rattle.claims_known.specs.Telegrams.{setup, twoWords, status, request1082, table1082, task1082, value1082, error1082}
@@ -47,7 +47,7 @@ call table values received = callOf setup table values (twoWords 0 0) status rec
 
 -- the answer's number, the reply's length, and the reply
 abbrev pub shown : Outcome → List ℕ
-shown o = answerNumber (o .served .answer) ∷ o .served .length ∷ take (o .served .length) (o .reply)
+shown o = answerNumber (o .served .answer) ∷ o .served .length ∷ sentBy o
 
 abbrev pub k3 : Case
 k3 = (shown (call table1082 (5000 ∷ []) (task1082 0x0E 0x7A)), 0 ∷ 16 ∷ value1082)

@@ -55,14 +55,14 @@ calls =
     ∷ (task1082 0x0E 0x7A, 0, value6000)
     -- no such parameter; its words 047E 2000 are taken
     ∷ (0x02 ∷ 0x0E ∷ 0x03 ∷ 0x14 ∷ 0x3B ∷ 0x00 ∷ 0x00 ∷ 0x00 ∷ 0x00 ∷ 0x00 ∷ 0x00 ∷ 0x04 ∷ 0x7E ∷ 0x20 ∷ 0x00 ∷ 0x7A ∷ [], 0, 0x02 ∷ 0x0E ∷ 0x03 ∷ 0x74 ∷ 0x3B ∷ 0x00 ∷ 0x00 ∷ 0x00 ∷ 0x00 ∷ 0x00 ∷ 0x00 ∷ 0x03 ∷ 0x31 ∷ 0x20 ∷ 0x00 ∷ 0x52 ∷ [])
-    -- a broadcast that sets bit 0 of the first word
+    -- a broadcast that sets bits 0 and 10 of the first word
     ∷ (0x02 ∷ 0x0E ∷ 0x20 ∷ 0x00 ∷ 0x06 ∷ 0x04 ∷ 0x01 ∷ 0x00 ∷ 0x00 ∷ 0x00 ∷ 0x00 ∷ 0x04 ∷ 0x01 ∷ 0x20 ∷ 0x00 ∷ 0x0A ∷ [], 2, [])
     -- a mirror
     ∷ (0x02 ∷ 0x03 ∷ 0x43 ∷ 0x55 ∷ 0x17 ∷ [], 1, 0x02 ∷ 0x03 ∷ 0x43 ∷ 0x55 ∷ 0x17 ∷ [])
     ∷ []
 
-abbrev pub shown : Seen → ℕ × List ℕ
-shown x = (answerNumber (x .answer), x .bytes)
+abbrev pub heard : Seen → ℕ × List ℕ
+heard x = (answerNumber (x .answer), x .bytes)
 
 abbrev pub awaited : List ℕ × ℕ × List ℕ → ℕ × List ℕ
 awaited c = (c .1, c .2)
@@ -72,6 +72,6 @@ ran = runOf setup table startState (map (λ (c : List ℕ × ℕ × List ℕ). e
 
 -- each call is answered so, one after another; the value left is the one that was changed, the control words are those of the
 -- last normal telegram with the broadcast's masked bits
-pub known-sequence : (map shown (ran .seen) ≡ map awaited calls) × (ran .last .values ≡ 6000 ∷ []) × (ran .last .control ≡ process)
+pub known-sequence : (map heard (ran .seen) ≡ map awaited calls) × (ran .last .values ≡ 6000 ∷ []) × (ran .last .control ≡ process)
 unfolding runOf callOf openingOf setupOk risingFrom eachOk runOk runsOk entryOf countOf signedOf numberOf atMost fitsIn isWithin entryOk entryAt entriesFrom entries findFrom countsOf executeOf xorAll frameOf addressOf normalCase mirrorCase broadcastCase commandAt taskDone controlTaken replyOf areaWords netOf valueAt areaAt processAt tasks taskOf pageOf verdictOf elementOf isVoid mergeOf controlAfter performOn foundOf performOf
 known-sequence = (refl, refl, refl)

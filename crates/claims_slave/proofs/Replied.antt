@@ -29,7 +29,7 @@ use Rattle.opening.proofs.AnswersLaws.{passed-opened}
 use Rattle.net.specs.Net.{netOf}
 use Rattle.net.specs.Read.{processAt}
 use Rattle.net.proofs.NetLaws.{length-net}
-use Rattle.net.proofs.ReadLaws.{process-first}
+use Rattle.net.proofs.AreaLaws.{process-first}
 use Rattle.net.proofs.SealLaws.{telegram-passes, written-first, written-rest}
 use Rattle.broadcast.specs.Broadcast.{isVoid}
 use Rattle.broadcast.proofs.VoidLaws.{not-void-commands, runs-after}

@@ -1,5 +1,4 @@
 // The listing of received bytes (document 01, Listing program).
-use frame::Decoded;
 ghost use mathlib.Core.Path.{_≡_};
 ghost use mathlib.Core.List.{[], _∷_};
 ghost use Prim.Native.Nat.{_≤_};
@@ -7,6 +6,7 @@ ghost use lib.ListN.{length};
 ghost use Rattle.text.specs.Digits.{ascii, digits};
 ghost use Rattle.store.specs.Placed.{putOut, putAll, joined};
 ghost use Rattle.listing.specs.Listing.{header, goodPieces, goodText, refusedPieces, listing, listedOf};
+use frame::Decoded;
 
 // Writes a label and a number behind it.
 fn write_field(out: &mut [u8], at: usize, label: &[u8], n: u32) -> usize

@@ -37,7 +37,8 @@ fn put_word(out: &mut [u8], at: usize, w: u16)
     }
 }
 
-// The first `count` of four words, at a place. This and the next two return the XOR of the words that they write.
+// The first `count` of four words, at a place. This and the next two return the XOR of the words that they write. Bounds on a place
+// only keep sums from wrapping.
 fn put_words(out: &mut [u8], at: usize, w: Words, count: u8) -> u16
     requires { ⌜ (at ≤ 1000) × (count ≤ 4) ⌝ }
     ensures { λ r. ⌜ (r ≡ xorAll (take count (wordsOf w))) × (now (out .exit) ≡ sets (now (out .entry)) at (bytesOf (take count (wordsOf w)))) ⌝ }

@@ -1,5 +1,7 @@
 -- Laws of the opening check.
+pub mod RecordLaws
 pub mod PassLaws
+pub mod ContentLaws
 pub mod AnswersLaws
 pub mod KeptLaws
 pub mod FoundLaws

@@ -1,101 +1,19 @@
--- The passes over table and values, as the code goes, and that they give the answers 21 and 22. Assumes nothing.
-use Prim.Native.Nat.{ℕ, suc, _+_, _-_, _*_, _/_, _%_, _<_, _≤_}
+-- The passes over table and values, as the code goes. Assumes nothing.
+use Prim.Native.Nat.{ℕ, _+_, _-_, _*_, _/_, _%_, _<_, _≤_}
 use mathlib.Core.Path.{_≡_, refl, _∙_}
 use mathlib.Core.List.{List, [], _∷_}
-use mathlib.Core.Bool.{Bool, true, false, not, cond, _&&_, and-true, and-false, false≢true}
+use mathlib.Core.Bool.{Bool, true, false, _&&_, and-true, and-false}
 use native.Mathlib.Omega.{arith}
 use native.Mathlib.Nat.{add-zero, zero-add}
-use borrow.Author.Tests.{le-leb, lt-leb, leb-true, leb-false, eq-eqb, ne-eqb, eqb-true}
-use lib.ListN.{length, getD}
+use borrow.Author.Tests.{le-leb, lt-leb, leb-true, leb-false, eq-eqb, eqb-true}
+use lib.ListN.{length}
 use lib.Dec.{eqb, leb}
 use Rattle.entry.specs.declared.Entry.{Entry}
 use Rattle.entry.specs.Fields.{countOf}
-use Rattle.entry.specs.Limits.{limitsOk, isWithin, entryOk}
+use Rattle.entry.specs.Limits.{entryOk}
 use Rattle.table.specs.Records.{entries, entriesFrom, countsOf}
-use Rattle.opening.specs.declared.Opening.the-variants.{Passed, Refused}
-use Rattle.opening.specs.declared.OpeningFault.the-variants.{BadTable, BadValues}
 use Rattle.opening.specs.Rules.{risingFrom, eachOk, runOk, runsOk, tableOk, valuesOk}
-use Rattle.opening.specs.Answers.{contentOf}
-
--- ---- one record
-
--- the step of the loop over a record's values, and its end
-again : (a l w r : Bool) → (a && (l && (w && r))) ≡ ((a && (l && w)) && (l && r))
-again false l w r = refl
-again true false w r = refl
-again true true w r = refl
-
-module _ (e : Entry) (vs : List ℕ) (n place i : ℕ) where
-  -- s and b are what the code has for this value, and for all so far
-  pub run-on : (a s b : Bool) → i < n → s ≡ (limitsOk e && isWithin e (getD vs (place + i) 0)) → b ≡ (a && s)
-      → (a && (limitsOk e && runOk e vs (n - i) (place + i))) ≡ (b && (limitsOk e && runOk e vs (n - (i + 1)) (place + (i + 1))))
-  unfolding runOk
-  run-on a s b h p q =
-      let z : n - i ≡ suc (n - (i + 1)) = omega arith in
-      let y : place + (i + 1) ≡ suc (place + i) = omega arith in
-      rw (q, p, z, y) (again a (limitsOk e) (isWithin e (getD vs (place + i) 0)) (runOk e vs (n - (i + 1)) (suc (place + i))))
-
-  pub run-end : n ≤ i → runOk e vs (n - i) (place + i) ≡ true
-  unfolding runOk
-  run-end h =
-      let z : n - i ≡ 0 = omega arith in
-      rw z
-
--- one value shows the limits to be in order
-pub shown : (a l w s b : Bool) → s ≡ (l && w) → b ≡ (a && s) → (b && l) ≡ b
-shown false l w s b p q = rw q
-shown true false w s b p q = rw (q, p)
-shown true true w s b p q = rw (q, p, and-true w)
-
--- what the loop leaves
-pub run-all : (l f r b : Bool) → f ≡ true → (l && r) ≡ (b && (l && true)) → (b && l) ≡ b → b ≡ (l && f && r)
-run-all l f r b h e s = rw (h, and-true l, e, and-true l, s)
-
-pub run-short : (l f r : Bool) → f ≡ false → false ≡ (l && f && r)
-run-short l f r h = rw (h, and-false l)
-
--- one value
-pub run-one : (e : Entry) (vs : List ℕ) (place : ℕ) (r : Bool) → place < length vs → r ≡ (limitsOk e && isWithin e (getD vs place 0))
-    → r ≡ (limitsOk e && leb (place + 1) (length vs) && runOk e vs 1 place)
-unfolding runOk
-run-one e vs place r h q = rw (q, le-leb (place + 1) (length vs) (omega arith), and-true (limitsOk e), and-true (isWithin e (getD vs place 0)))
-
--- the rules that a record can break by itself, but for that of its number
-abbrev pub plainOk : Entry → Bool
-plainOk e = leb (e .elements) 254 && eqb (e .spare) 0 && limitsOk e
-
-four-tests : (n s p l : Bool) → (n && s && p && l) ≡ (n && (s && p && l))
-four-tests false s p l = refl
-four-tests true s p l = refl
-
-module _ (e : Entry) where
-  entry-plain : entryOk e ≡ (leb (e .number) 31999 && plainOk e)
-  unfolding entryOk
-  entry-plain = four-tests (leb (e .number) 31999) (leb (e .elements) 254) (eqb (e .spare) 0) (limitsOk e)
-
-  pub elements-over : 254 < e .elements → plainOk e ≡ false
-  elements-over h = simp (lt-leb _ _ h)
-
-  pub spare-set : (e .spare ≡ 0 → ⊥) → plainOk e ≡ false
-  spare-set h = simp (ne-eqb _ _ h, and-false)
-
-  pub plain-limits : e .elements ≤ 254 → e .spare ≡ 0 → plainOk e ≡ limitsOk e
-  plain-limits q h = simp (le-leb _ _ q, eq-eqb _ _ h)
-
--- a record, but for its number, and its values are in order
-abbrev pub fineOf : Entry → List ℕ → ℕ → Bool
-fineOf e vs place = plainOk e && leb (place + countOf e) (length vs) && runOk e vs (countOf e) place
-
-module _ (e : Entry) (vs : List ℕ) (place : ℕ) where
-  pub fine-broken : (next : ℕ) → plainOk e ≡ false → (false ≡ fineOf e vs place) × (false ≡ true → next ≡ place + countOf e)
-  fine-broken next h = (rw h, λ f. absurd (false≢true f))
-
-  -- its n values were looked at, and its limits with them
-  pub fine-run : (n : ℕ) (r : Bool) → countOf e ≡ n → plainOk e ≡ limitsOk e → r ≡ (limitsOk e && leb (place + n) (length vs) && runOk e vs n place)
-      → (r ≡ fineOf e vs place) × (r ≡ true → place + n ≡ place + countOf e)
-  fine-run n r c o q = (q ∙ rw (c, o), λ f. rw c)
-
--- ---- the table, and the values with it
+use Rattle.opening.proofs.RecordLaws.{plainOk, entry-plain, fineOf}
 
 -- of the records that are left, the least number that may follow, and the next place
 abbrev pub ruledFrom : List Entry → ℕ → ℕ → Bool
@@ -207,33 +125,3 @@ module _ (t : List ℕ) (n : ℕ) (whole : length t ≡ 12 * n) (few : n ≤ 512
   pass-all vs =
       let count : length t / 12 ≡ n = omega arith in
       rw (rule-all, count, zero-add)
-
--- ---- the answers 21 and 22
-
-content-tests : (a b : Bool) → cond (not a) (Refused BadTable) (cond (not b) (Refused BadValues) Passed) ≡ cond (a && b) Passed (cond a (Refused BadValues) (Refused BadTable))
-content-tests false b = refl
-content-tests true false = refl
-content-tests true true = refl
-
-module _ (t vs : List ℕ) where
-  content-is : contentOf t vs ≡ cond (tableOk t && valuesOk t vs) Passed (cond (tableOk t) (Refused BadValues) (Refused BadTable))
-  unfolding contentOf
-  content-is = content-tests (tableOk t) (valuesOk t vs)
-
-  pub content-passed : (tableOk t && valuesOk t vs) ≡ true → contentOf t vs ≡ Passed
-  content-passed h = content-is ∙ rw h
-
-  pub content-values : (tableOk t && valuesOk t vs) ≡ false → tableOk t ≡ true → contentOf t vs ≡ Refused BadValues
-  content-values h o = content-is ∙ rw (h, o)
-
-  pub content-table : (tableOk t && valuesOk t vs) ≡ false → tableOk t ≡ false → contentOf t vs ≡ Refused BadTable
-  content-table h o = content-is ∙ rw (h, o)
-
--- a table of another length, or of more records, breaks a rule
-pub part-content : (t vs : List ℕ) → (length t % 12 ≡ 0 → ⊥) → contentOf t vs ≡ Refused BadTable
-unfolding contentOf
-part-content t vs h = simp (ne-eqb _ _ h)
-
-pub long-content : (t vs : List ℕ) → length t % 12 ≡ 0 → 512 < length t / 12 → contentOf t vs ≡ Refused BadTable
-unfolding contentOf
-long-content t vs h g = simp (eq-eqb _ _ h, lt-leb _ _ g)

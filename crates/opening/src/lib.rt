@@ -66,7 +66,7 @@ fn holds(e: Entry, v: u32) -> bool
     within(e, v)
 }
 
-// The same of the value at a place, which must be there.
+// The same of the value at a place, which must be there. Here and below the bound on a place only keeps sums from wrapping.
 fn value_holds(e: Entry, values: &[u32], place: usize) -> bool
     requires { ⌜ place ≤ 1000000 ⌝ }
     ensures { λ r. ⌜ r ≡ (limitsOk e && leb (place + 1) (length (now (values .entry))) && runOk e (now (values .entry)) 1 place) ⌝ }

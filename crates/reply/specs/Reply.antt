@@ -2,6 +2,8 @@
 -- 10-17 (15 also for bits 5 or 6), then 33; otherwise 0 with reply ID, value or error number, and process words.
 --     contentId c, contentValue c     the document's reply ID, and the value or error number
 --     readFaultNumber f               the document's number of a refusal
+--     readNumber a, readId a, readValue a     number, reply ID, value or error number of an answer
+--     knownId, misfit, otherEcho, notEmpty    the parts of 33
 --     badReply pkw id .. a            33: whether the area a is not a reply to the task
 --     readOf s r rx                   the reading
 use Prim.Native.Nat.{ℕ, _+_, _-_, _/_, _%_}

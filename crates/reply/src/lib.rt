@@ -5,7 +5,7 @@ ghost use Prim.Native.Nat.{_+_, _≤_};
 ghost use lib.Dec.{eqb};
 ghost use lib.ListN.{length};
 ghost use Rattle.setup.specs.SetupRules.{setupOk};
-ghost use Rattle.reply.specs.Reply.{inRow, knownId, misfit, notEmpty, otherEcho, badReply, replyContent, unreadOf, readNormal, readTask, readOf};
+ghost use Rattle.reply.specs.Reply.{inRow, knownId, misfit, notEmpty, otherEcho, badReply, replyContent, unreadOf, readNormal, readTask, readOf, zeroWords};
 use frame::Decoded;
 use frame::Fault;
 use net::Area;
@@ -171,17 +171,24 @@ fn read_content(id: u8, area: Area) -> Content
 
 // ---- the reading
 
+// Four words of 0.
+fn zero_words() -> Words
+    ensures { λ r. ⌜ r ≡ zeroWords ⌝ }
+{
+    Words {
+        w1: 0,
+        w2: 0,
+        w3: 0,
+        w4: 0,
+    }
+}
+
 fn refuse(fault: ReadFault) -> Reading
     ensures { λ r. ⌜ r ≡ unreadOf fault ⌝ }
 {
     Reading {
         answer: ReadAnswer::Unread(fault),
-        process: Words {
-            w1: 0,
-            w2: 0,
-            w3: 0,
-            w4: 0,
-        },
+        process: zero_words(),
     }
 }
 
@@ -204,13 +211,7 @@ fn read_normal(
     if n != setup::net_bytes(setup) {
         return refuse(ReadFault::OtherLength);
     }
-    let none = Words {
-        w1: 0,
-        w2: 0,
-        w3: 0,
-        w4: 0,
-    };
-    let process = net::read_process(received, setup.pkw, setup.pzd, none);
+    let process = net::read_process(received, setup.pkw, setup.pzd, zero_words());
     if setup.pkw == 0 {
         return Reading {
             answer: ReadAnswer::Read(Content::Empty),

@@ -17,7 +17,7 @@ use Rattle.net.specs.Read.{areaIn, processAt, processIn}
 use Rattle.net.specs.Net.{normalOf, normalLength}
 use Rattle.net.specs.Telegram.{written}
 use Rattle.net.proofs.NetLaws.{normal-sent}
-use Rattle.net.proofs.ReadLaws.{area-three, area-four, process-in, process-first}
+use Rattle.net.proofs.AreaLaws.{area-three, area-four, process-in, process-first}
 use Rattle.frame.specs.declared.Decoded.{Decoded}
 use Rattle.frame.specs.Address.{decodedOf}
 use Rattle.opening.specs.declared.Opening.{Opening}

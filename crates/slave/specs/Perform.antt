@@ -1,5 +1,9 @@
 -- A parameter task on the lent values (document 01, Parameter area): the reply's area and the values afterwards.
 --     replyArea a id v        a reply to the area a: ID and value, with a's base, page and index; the ignored bits are 0
+--     errorArea a error       the reply with an error
+--     doneOf act ..           what an act does where no error applies
+--     performOn n k a e ..    the task k on a record e: the first error that applies, or the act
+--     foundOf t a             the record that the area a names
 --     performOf n t vs a      the task in an area a of n words, on the table t and the values vs
 use Prim.Native.Nat.{ℕ, _+_, _*_, _/_, _%_}
 use mathlib.Core.Path.{_≡_}
@@ -65,7 +69,8 @@ readReply reply double = reply + cond double 1 0
 abbrev pub elementCount : ℕ → ℕ
 elementCount elements = cond (eqb elements 0) 1 elements
 
--- what an act does where no error applies: v is the value that the task carries, `place` the place that it means
+-- what an act does where no error applies: v is the value that the task carries, `place` the place that it means. Idle and Refuse are
+-- not met here: task 0 is answered before (performTask), and 106 is an error (verdictOf)
 abbrev pub doneOf : Act → ℕ → Area → Bool → ℕ → ℕ → List ℕ → ℕ → Performed
 doneOf Idle reply a double elements v vs place = nothingDone vs
 doneOf Read reply a double elements v vs place = record { area = replyArea a (readReply reply double) (getD vs place 0); values = vs }

@@ -4,6 +4,9 @@
 --     answerNumber a       the document's number of an answer
 --     sentBy o             the reply that a call leaves
 --     voidIn s rx          a broadcast of this set-up commands nothing
+--     normalCase ..        16, 17, or a normal telegram: task, control words, reply
+--     mirrorCase ..        16, or a mirror
+--     broadcastCase ..     17, 18, or a broadcast
 --     callOf ..            the call
 use Prim.Native.Nat.{ℕ, _+_, _-_, _*_}
 use mathlib.Core.Path.{_≡_}

@@ -1,5 +1,17 @@
 // The calls for C: structs by value, slices as pointer and count, answers as the document's numbers (document 01, Answer
 // numbers). Each call converts its structs and hands on to the crate that does the work.
+ghost use mathlib.Core.Path.{_≡_};
+ghost use mathlib.Core.List.{[]};
+ghost use Prim.Native.Nat.{_≤_};
+ghost use Rattle.frame.specs.Bcc.{xorAll};
+ghost use Rattle.frame.specs.Address.{faultNumber};
+ghost use Rattle.opening.specs.Answers.{openingNumber};
+ghost use Rattle.request.specs.declared.Request.the-variants.{Task, Mirror, Broadcast};
+ghost use Rattle.slave.specs.Slave.{refusalNumber, answerNumber, callOf};
+ghost use Rattle.master.specs.Build.{buildNumber, builtNumber, builtOf};
+ghost use Rattle.reply.specs.Reply.{readFaultNumber, contentId, contentValue, readNumber, readId, readValue, readOf};
+ghost use Rattle.listing.specs.Listing.{listedOf};
+ghost use Rattle.uss_c.specs.Host.{setupOf, ownWords, hostWords, hostBuilt, SlaveLeaves, BuildLeaves, ReplyGives};
 use frame::Fault;
 use master::BuildAnswer;
 use master::BuildFault;
@@ -13,18 +25,6 @@ use setup::Setup;
 use slave::Answer;
 use slave::Refusal;
 use words::Words;
-ghost use mathlib.Core.Path.{_≡_};
-ghost use mathlib.Core.List.{[]};
-ghost use Prim.Native.Nat.{_≤_};
-ghost use Rattle.frame.specs.Bcc.{xorAll};
-ghost use Rattle.frame.specs.Address.{faultNumber};
-ghost use Rattle.opening.specs.Answers.{openingNumber};
-ghost use Rattle.request.specs.declared.Request.the-variants.{Task, Mirror, Broadcast};
-ghost use Rattle.slave.specs.Slave.{refusalNumber, answerNumber, callOf};
-ghost use Rattle.master.specs.Build.{buildNumber, builtNumber, builtOf};
-ghost use Rattle.reply.specs.Reply.{readFaultNumber, contentId, contentValue, readNumber, readId, readValue, readOf};
-ghost use Rattle.listing.specs.Listing.{listedOf};
-ghost use Rattle.uss_c.specs.Host.{setupOf, ownWords, hostWords, hostBuilt, SlaveLeaves, BuildLeaves, ReplyGives};
 
 // ---- the structs that cross
 

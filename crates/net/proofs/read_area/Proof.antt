@@ -3,7 +3,7 @@ use mathlib.Core.Path.{_∙_}
 use native.Mathlib.Omega.{arith}
 use borrow.Author.Tests.{le-ltb, lt-ltb, ne-eqb}
 use Rattle.net.specs.Read.{areaIn}
-use Rattle.net.proofs.ReadLaws.{area-three, area-four}
+use Rattle.net.proofs.AreaLaws.{area-three, area-four}
 use borrow.Author.Needs.{needs}
 use Rattle.net.proofs.read_area.Statement.{statement}
 use Rattle.net.proofs.read_area.Tie as tie

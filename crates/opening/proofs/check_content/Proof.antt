@@ -2,7 +2,7 @@
 use mathlib.Core.Path.{sym, _∙_}
 use native.Mathlib.Omega.{arith}
 use denote.Ref.{now}
-use Rattle.opening.proofs.PassLaws.{content-passed, content-values, content-table, part-content, long-content}
+use Rattle.opening.proofs.ContentLaws.{content-passed, content-values, content-table, part-content, long-content}
 use Rattle.opening.proofs.check_content.Statement.{statement}
 use Rattle.opening.proofs.check_content.Tie as tie
 use Rattle.opening.proofs.check_content.Reads as reads

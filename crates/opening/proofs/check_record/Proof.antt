@@ -2,7 +2,7 @@
 use native.Mathlib.Omega.{arith}
 use denote.Ref.{now}
 use Rattle.entry.proofs.LimitsLaws.{count-none, count-some}
-use Rattle.opening.proofs.PassLaws.{elements-over, spare-set, plain-limits, fine-broken, fine-run}
+use Rattle.opening.proofs.RecordLaws.{elements-over, spare-set, plain-limits, fine-broken, fine-run}
 use borrow.Author.Needs.{needs}
 use Rattle.opening.proofs.check_record.Statement.{statement}
 use Rattle.opening.proofs.check_record.Tie as tie

@@ -10,7 +10,7 @@ use denote.Ref.{now}
 use lib.ListN.{length}
 use Rattle.entry.specs.Limits.{limitsOk}
 use Rattle.opening.specs.Rules.{runOk}
-use Rattle.opening.proofs.PassLaws.{run-on, run-end, shown, run-all, run-short}
+use Rattle.opening.proofs.RecordLaws.{run-on, run-end, value-shows, run-all, run-short}
 use Rattle.opening.proofs.run_holds.Statement.{statement}
 use Rattle.opening.proofs.run_holds.Tie as tie
 use Rattle.opening.proofs.run_holds.Reads as reads
@@ -69,7 +69,7 @@ loop-again c =
     let a = l .before .before .before .args in (
       omega arith,
       l .loop .inv .1 ∙ run-on (a .e) (now (a .values)) (a .n) (a .place) (l .loop .i) (l .loop .all) _ _ (t .loop-test .taken) (w .holds .ensures) (c .hold-both .ensures),
-      λ h. shown (l .loop .all) (limitsOk (a .e)) _ _ _ (w .holds .ensures) (c .hold-both .ensures),
+      λ h. value-shows (l .loop .all) (limitsOk (a .e)) _ _ _ (w .holds .ensures) (c .hold-both .ensures),
     )
 
 returns-2 : tie.Need-returns-2 Inv-loop μ-loop

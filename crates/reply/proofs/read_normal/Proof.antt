@@ -6,7 +6,7 @@ use native.Mathlib.Omega.{arith}
 use Rattle.setup.proofs.SetupLaws.{ok-configured, area-words}
 use Rattle.setup.specs.SetupRules.{netBytes}
 use Rattle.net.specs.Read.{areaAt, processAt}
-use Rattle.net.proofs.ReadLaws.{area-in, process-in}
+use Rattle.net.proofs.AreaLaws.{area-in, process-in}
 use Rattle.reply.specs.Reply.{zeroWords, badReply, readNormal}
 use borrow.Author.Needs.{needs}
 use Rattle.reply.proofs.read_normal.Statement.{statement}
@@ -18,25 +18,27 @@ use Rattle.net.proofs.read_process.Reads as read-process-reads
 use Rattle.reply.proofs.is_bad.Reads as is-bad-reads
 use Rattle.reply.proofs.read_content.Reads as read-content-reads
 use Rattle.reply.proofs.refuse.Reads as refuse-reads
+use Rattle.reply.proofs.zero_words.Reads as zero-words-reads
 use Rattle.setup.proofs.net_bytes.Reads as net-bytes-reads
 
 -- the words of the set-up are there
 long : (c : tie.Else2) → (let a = c .before .before .before .before .before .args in a .n ≡ netBytes (a .setup))
 long c = c .if2 .left ∙ c .before .net-bytes .ensures
 
-process-is : (c : tie.After-read-process) → (let a = c .before .before .before .before .before .before .args in c .read-process .result ≡ processAt (a .received .now) (a .setup .pkw) (a .setup .pzd) zeroWords)
+process-is : (c : tie.After-read-process) → (let a = c .before .before .before .before .before .before .before .args in c .read-process .result ≡ processAt (a .received .now) (a .setup .pkw) (a .setup .pzd) zeroWords)
 process-is c =
-    let a = c .before .before .before .before .before .before in
-    c .read-process .ensures ∙ process-in (a .args .received .now) (a .args .setup .pkw) (a .args .setup .pzd) zeroWords (omega (arith, a .pre .1, long (c .before)))
+    let z = c .before in
+    let a = z .before .before .before .before .before .before in
+    c .read-process .ensures ∙ rw (z .zero-words .ensures) (process-in (a .args .received .now) (a .args .setup .pkw) (a .args .setup .pzd) zeroWords (omega (arith, a .pre .1, long (z .before))))
 
-area-is : (c : tie.After-read-area) → (let a = c .before .before .before .before .before .before .before .before .before .args in c .read-area .result ≡ areaAt (a .received .now) (a .setup .pkw))
+area-is : (c : tie.After-read-area) → (let a = c .before .before .before .before .before .before .before .before .before .before .args in c .read-area .result ≡ areaAt (a .received .now) (a .setup .pkw))
 area-is c =
     let e = c .before in
-    let a = e .before .before .before .before .before .before .before .before in
+    let a = e .before .before .before .before .before .before .before .before .before in
     let w = area-words (a .args .setup) (ok-configured (a .args .setup) (a .pre .0)) (e .if3 .left) in
-    c .read-area .ensures ∙ area-in (a .args .received .now) (a .args .setup .pkw) (w .0) (w .1) (omega (arith, a .pre .1, long (e .before .before .before)))
+    c .read-area .ensures ∙ area-in (a .args .received .now) (a .args .setup .pkw) (w .0) (w .1) (omega (arith, a .pre .1, long (e .before .before .before .before)))
 
-bad : (c : tie.After-is-bad) → (let a = c .before .before .before .before .before .before .before .before .before .before .args in badReply (a .setup .pkw) (a .id) (a .number) (a .index) (areaAt (a .received .now) (a .setup .pkw)) ≡ c .is-bad .result)
+bad : (c : tie.After-is-bad) → (let a = c .before .before .before .before .before .before .before .before .before .before .before .args in badReply (a .setup .pkw) (a .id) (a .number) (a .index) (areaAt (a .received .now) (a .setup .pkw)) ≡ c .is-bad .result)
 bad c = sym (c .is-bad .ensures ∙ rw (area-is (c .before)))
 
 refuse-requires : tie.Need-refuse-requires
@@ -58,6 +60,9 @@ returns-2 c =
     let n = c .before .before in
     c .refuse2 .ensures ∙ sym (rw (eq-eqb _ _ (n .before .if1 .left), ne-eqb _ _ (λ e. c .before .if2 .taken (e ∙ sym (n .net-bytes .ensures)))))
 
+zero-words-requires : tie.Need-zero-words-requires
+zero-words-requires c κs = search needs
+
 read-process-requires : tie.Need-read-process-requires
 read-process-requires c κs = search needs
 
@@ -65,7 +70,7 @@ returns-3 : tie.Need-returns-3
 unfolding readNormal
 returns-3 c =
     let r = c .before .before in
-    rw (eq-eqb _ _ (r .before .before .before .if1 .left), eq-eqb _ _ (long (r .before)), eq-eqb _ _ (c .if3 .taken), process-is r)
+    rw (eq-eqb _ _ (r .before .before .before .before .if1 .left), eq-eqb _ _ (long (r .before .before)), eq-eqb _ _ (c .if3 .taken), process-is r)
 
 read-area-requires : tie.Need-read-area-requires
 read-area-requires c κs = search needs
@@ -82,7 +87,7 @@ returns-4 c =
     let b = c .before .before in
     let e = b .before .before in
     let r = e .before .before in
-    c .refuse3 .ensures ∙ sym (rw (eq-eqb _ _ (r .before .before .before .if1 .left), eq-eqb _ _ (long (r .before)), ne-eqb _ _ (e .if3 .left), bad b ∙ c .before .if4 .taken))
+    c .refuse3 .ensures ∙ sym (rw (eq-eqb _ _ (r .before .before .before .before .if1 .left), eq-eqb _ _ (long (r .before .before)), ne-eqb _ _ (e .if3 .left), bad b ∙ c .before .if4 .taken))
 
 read-content-requires : tie.Need-read-content-requires
 read-content-requires c κs = search needs
@@ -93,7 +98,7 @@ returns-5 c =
     let b = c .before .before in
     let e = b .before .before in
     let r = e .before .before in
-    sym (rw (eq-eqb _ _ (r .before .before .before .if1 .left), eq-eqb _ _ (long (r .before)), ne-eqb _ _ (e .if3 .left), bad b ∙ c .before .if4 .left, c .read-content .ensures, area-is (b .before), process-is r))
+    sym (rw (eq-eqb _ _ (r .before .before .before .before .if1 .left), eq-eqb _ _ (long (r .before .before)), ne-eqb _ _ (e .if3 .left), bad b ∙ c .before .if4 .left, c .read-content .ensures, area-is (b .before), process-is r))
 
 pub read-normal-spec : {M : Type 1} → statement M
 read-normal-spec =
@@ -104,6 +109,7 @@ read-normal-spec =
     net-bytes-requires
     refuse-requires-2
     returns-2
+    zero-words-requires
     read-process-requires
     returns-3
     read-area-requires

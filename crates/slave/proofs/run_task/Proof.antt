@@ -1,7 +1,7 @@
 -- `slave::run_task` meets its contract. Assumes nothing.
 use mathlib.Core.Path.{refl, _∙_}
 use borrow.Author.Tests.{ne-eqb}
-use Rattle.net.proofs.ReadLaws.{area-in}
+use Rattle.net.proofs.AreaLaws.{area-in}
 use Rattle.slave.specs.Slave.{taskDone}
 use borrow.Author.Needs.{needs}
 use Rattle.slave.proofs.run_task.Statement.{statement}
