@@ -1,7 +1,7 @@
 -- Document 01's answer numbers of the master, line by line and in its order.
 --     buildRows s r net room     a build: 30, 31, 32
 --     asksTask s r               a reply can be read to the request: it is a task that can be asked
---     notTheReply s r rx         33: there is an area, and it is no reply to the task
+--     otherReply s r rx          33: there is an area, and it is no reply to the task
 --     readingRows s r rx         a reading: 30, 31, 10 to 17, 33
 use Prim.Native.Nat.{ℕ, _+_, _-_, _%_}
 use mathlib.Core.Bool.{Bool, false, not, _&&_, _||_}
@@ -35,10 +35,10 @@ asksTask s (Task id number index value process) = taskAskable s id number index 
 asksTask s Mirror = false
 asksTask s (Broadcast selector mask1 mask2 process) = false
 
-abbrev pub notTheReply : Setup → Request → List ℕ → Bool
-notTheReply s (Task id number index value process) rx = not (eqb (s .pkw) 0) && badReply (s .pkw) id number index (areaAt rx (s .pkw))
-notTheReply s Mirror rx = false
-notTheReply s (Broadcast selector mask1 mask2 process) rx = false
+abbrev pub otherReply : Setup → Request → List ℕ → Bool
+otherReply s (Task id number index value process) rx = not (eqb (s .pkw) 0) && badReply (s .pkw) id number index (areaAt rx (s .pkw))
+otherReply s Mirror rx = false
+otherReply s (Broadcast selector mask1 mask2 process) rx = false
 
 abbrev pub readingRows : Setup → Request → List ℕ → List (Bool × ℕ)
 readingRows s r rx =
@@ -58,5 +58,5 @@ readingRows s r rx =
     -- n not 2 × (PKW + PZD): n is all but 02, LGE, ADR, BCC
     ∷ (not (eqb (length rx - 4) (netBytes s)), 17)
     -- not the reply to the task
-    ∷ (notTheReply s r rx, 33)
+    ∷ (otherReply s r rx, 33)
     ∷ []

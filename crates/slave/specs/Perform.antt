@@ -69,8 +69,8 @@ readReply reply double = reply + cond double 1 0
 abbrev pub elementCount : ℕ → ℕ
 elementCount elements = cond (eqb elements 0) 1 elements
 
--- what an act does where no error applies: v is the value that the task carries, `place` the place that it means. Idle and Refuse are
--- not met here: task 0 is answered before (performTask), and 106 is an error (verdictOf)
+-- what an act does where no error applies: v is the value that the task carries, `place` the place that it means. Idle and Refuse
+-- are not met here: task 0 is answered before (performTask), and 106 is an error (verdictOf)
 abbrev pub doneOf : Act → ℕ → Area → Bool → ℕ → ℕ → List ℕ → ℕ → Performed
 doneOf Idle reply a double elements v vs place = nothingDone vs
 doneOf Read reply a double elements v vs place = record { area = replyArea a (readReply reply double) (getD vs place 0); values = vs }

@@ -8,16 +8,16 @@ use native.Mathlib.Omega.{arith}
 use lib.Dec.{lit≤}
 use lib.ListN.{List·getD-eq-default}
 use Rattle.rows.proofs.RangeLaws.{between}
-use Rattle.task.specs.Task.{noTask, tasks, taskOf}
+use Rattle.task.specs.Task.{refusedRow, tasks, taskOf}
 
 -- 15, and the numbers that are no task ID
-pub refused-on : (id : ℕ) → 15 ≤ id → taskOf id ≡ noTask
+pub refused-on : (id : ℕ) → 15 ≤ id → taskOf id ≡ refusedRow
 unfolding taskOf tasks
 refused-on id h = go (eq-or-lt-of-le h)
   where
-    go : (15 ≡ id) ⊎ (15 < id) → taskOf id ≡ noTask
+    go : (15 ≡ id) ⊎ (15 < id) → taskOf id ≡ refusedRow
     go (inl e) = rw (← e)
-    go (inr l) = List·getD-eq-default tasks noTask l
+    go (inr l) = List·getD-eq-default tasks refusedRow l
 
 -- reply IDs are at most 7
 pub reply-small : (id : ℕ) → taskOf id .reply ≤ 7

@@ -14,8 +14,8 @@ abbrev pub taskRow : Act → Width → Bool → ℕ → Task
 taskRow act width array reply = record { act = act; width = width; array = array; reply = reply }
 
 -- error 106; task IDs over 15 do not occur, and are refused like 15 (ours)
-abbrev pub noTask : Task
-noTask = taskRow Refuse Either false 7
+abbrev pub refusedRow : Task
+refusedRow = taskRow Refuse Either false 7
 
 unfoldable pub tasks : List Task
 tasks =
@@ -27,8 +27,8 @@ tasks =
     ∷ taskRow Change Word false 1
     ∷ taskRow Change Double false 2
     -- 4, 5
-    ∷ noTask
-    ∷ noTask
+    ∷ refusedRow
+    ∷ refusedRow
     -- 6 read element
     ∷ taskRow Read Either true 4
     -- 7 change element, word; 8 change element, double
@@ -37,15 +37,15 @@ tasks =
     -- 9 number of elements
     ∷ taskRow Count Either false 6
     -- 10
-    ∷ noTask
+    ∷ refusedRow
     -- 11 as 8, 12 as 7, 13 as 3, 14 as 2
     ∷ taskRow Change Double true 5
     ∷ taskRow Change Word true 4
     ∷ taskRow Change Double false 2
     ∷ taskRow Change Word false 1
     -- 15
-    ∷ noTask
+    ∷ refusedRow
     ∷ []
 
 unfoldable pub taskOf : ℕ → Task
-taskOf id = getD tasks id noTask
+taskOf id = getD tasks id refusedRow

@@ -1,5 +1,5 @@
--- The errors of a task on a parameter (document 01, Parameter area), in the document's order; the first that applies counts. Error 0
--- is there before a record is found, so the slave gives it (slave, Perform).
+-- The errors of a task on a parameter (document 01, Parameter area), in the document's order; the first that applies counts.
+-- Error 0 is there before a record is found, so the slave gives it (slave, Perform).
 --     errorNumber e       the document's number of an error
 --     verdictRows ..      the errors' tests, in the document's order
 --     verdictOf ..        granted, or the error

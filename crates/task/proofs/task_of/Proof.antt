@@ -8,7 +8,7 @@ use lib.Dec.{eqb}
 use Rattle.rows.proofs.RangeLaws.{between}
 use Rattle.task.specs.declared.Act.the-variants.{Change}
 use Rattle.task.specs.declared.Width.the-variants.{Word, Double}
-use Rattle.task.specs.Task.{taskRow, noTask, tasks, taskOf}
+use Rattle.task.specs.Task.{taskRow, refusedRow, tasks, taskOf}
 use Rattle.task.proofs.TaskLaws.{refused-on}
 use borrow.Author.Needs.{needs}
 use Rattle.task.proofs.task_of.Statement.{statement}
@@ -118,7 +118,7 @@ unfolding taskOf tasks
 returns-9 c =
     let i = c .before .before .before .before .args .id in
     c .row9 .ensures
-    ∙ ⊎-elim (λ w. between (λ k. noTask ≡ taskOf k) 2 4 (refl, (refl, tt)) i (omega arith) (omega arith))
+    ∙ ⊎-elim (λ w. between (λ k. refusedRow ≡ taskOf k) 2 4 (refl, (refl, tt)) i (omega arith) (omega arith))
     (⊎-elim (λ w. let e : i ≡ 10 = omega arith in rw e) (λ w. sym (refused-on i (omega arith))))
     (c .before .if2 .came)
 
