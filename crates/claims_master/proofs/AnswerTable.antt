@@ -8,8 +8,8 @@ use mathlib.Core.List.{List, [], _∷_}
 use native.Mathlib.Omega.{arith}
 use lib.Dec.{ltb, eqb}
 use lib.ListN.{length}
-use Rattle.rows.specs.Rows.{firstOf, Chosen}
-use Rattle.rows.proofs.RowsLaws.{first-chosen, readRows, first-read}
+use Rattle.rows.specs.Rows.{firstOf, readRows, Chosen}
+use Rattle.rows.proofs.RowsLaws.{first-chosen, first-read}
 use Rattle.setup.specs.declared.Setup.{Setup}
 use Rattle.setup.specs.SetupRules.{setupOk, netBytes}
 use Rattle.frame.specs.Frame.{lastOf, frameRows, frameOf}

@@ -2,17 +2,19 @@
 --     buildRows s r net room     a build: 30, 31, 32
 --     asksTask s r               a reply can be read to the request: it is a task that can be asked
 --     otherReply s r rx          33: there is an area, and it is no reply to the task
+--     checkNumber c              the number of what the frame check finds, 0 where it finds no fault
 --     readingRows s r rx         a reading: 30, 31, 10 to 17, 33
-use Prim.Native.Nat.{ℕ, _+_, _-_, _%_}
+use Prim.Native.Nat.{ℕ, _-_, _%_}
 use mathlib.Core.Bool.{Bool, false, not, _&&_, _||_}
-use mathlib.Core.List.{List, [], _∷_}
+use mathlib.Core.List.{List, [], _∷_, _++_}
 use lib.Dec.{ltb, eqb}
-use lib.ListN.{length, take}
-use Rattle.words.specs.Words.{byteAt}
+use lib.ListN.{length}
+use Rattle.rows.specs.Rows.{readRows}
 use Rattle.setup.specs.declared.Setup.{Setup}
 use Rattle.setup.specs.SetupRules.{setupOk, netBytes}
-use Rattle.frame.specs.Bcc.{xorAll}
-use Rattle.frame.specs.Frame.{lastOf}
+use Rattle.frame.specs.Frame.{frameRows, frameNumber}
+use Rattle.frame.specs.declared.FrameCheck.{FrameCheck}
+use Rattle.frame.specs.declared.FrameCheck.the-variants.{Sound, Broken}
 use Rattle.frame.specs.Address.{adrOf, broadcastBit, mirrorBit, topBit}
 use Rattle.net.specs.Read.{areaAt}
 use Rattle.request.specs.declared.Request.{Request}
@@ -40,19 +42,19 @@ otherReply s (Task id number index value process) rx = not (eqb (s .pkw) 0) && b
 otherReply s Mirror rx = false
 otherReply s (Broadcast selector mask1 mask2 process) rx = false
 
+abbrev pub checkNumber : FrameCheck → ℕ
+checkNumber (Sound end) = 0
+checkNumber (Broken fault) = frameNumber fault
+
 abbrev pub readingRows : Setup → Request → List ℕ → List (Bool × ℕ)
 readingRows s r rx =
     (not (setupOk s), 30)
     -- also for a mirror or broadcast request
     ∷ (not (asksTask s r), 31)
     -- the lines 10 to 14 of the frame check
-    ∷ (ltb (length rx) 5, 10)
-    ∷ (not (eqb (byteAt rx 0) 2), 11)
-    ∷ (ltb (byteAt rx 1) 3 || ltb 254 (byteAt rx 1), 12)
-    ∷ (not (eqb (length rx) (byteAt rx 1 + 2)), 13)
-    ∷ (not (eqb (byteAt rx (lastOf rx)) (xorAll (take (lastOf rx) rx))), 14)
+    ∷ readRows checkNumber (frameRows rx)
     -- bit 7; also for bits 5 or 6
-    ∷ (topBit (adrOf rx) || (broadcastBit (adrOf rx) || mirrorBit (adrOf rx)), 15)
+    ++ (topBit (adrOf rx) || (broadcastBit (adrOf rx) || mirrorBit (adrOf rx)), 15)
     -- from another node
     ∷ (not (eqb (adrOf rx % 32) (s .node)), 16)
     -- n not 2 × (PKW + PZD): n is all but 02, LGE, ADR, BCC

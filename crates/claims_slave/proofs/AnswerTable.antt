@@ -11,8 +11,8 @@ use mathlib.Core.List.{List, [], _∷_}
 use native.Mathlib.Omega.{arith}
 use lib.Dec.{eqb, lit<}
 use lib.ListN.{length}
-use Rattle.rows.specs.Rows.{firstOf, Chosen}
-use Rattle.rows.proofs.RowsLaws.{first-all, first-chosen, chosen-first, readRows, first-read}
+use Rattle.rows.specs.Rows.{firstOf, readRows, Chosen}
+use Rattle.rows.proofs.RowsLaws.{first-all, first-chosen, chosen-first, first-read}
 use Rattle.words.specs.declared.Words.{Words}
 use Rattle.setup.specs.declared.Setup.{Setup}
 use Rattle.setup.specs.SetupRules.{netBytes}
