@@ -27,7 +27,8 @@ use Rattle.master.specs.declared.BuildFault.{BuildFault}
 use Rattle.master.specs.declared.BuildFault.the-variants.{BadSetup, NotExpressible, ShortBuffer}
 use Rattle.master.specs.declared.BuildAnswer.{BuildAnswer}
 use Rattle.master.specs.declared.BuildAnswer.the-variants.{Done, Refused}
-use Rattle.master.specs.Build.{builtNumber, telegramFor, outcomeOf, admitted, builtOf}
+use Rattle.master.specs.Build.{builtNumber, telegramFor, admitted, builtOf}
+use Rattle.master.proofs.BuildLaws.{outcome-answer}
 use Rattle.reply.specs.declared.ReadAnswer.the-variants.{Read}
 use Rattle.reply.specs.declared.ReadFault.the-variants.{UnfitSetup, NotAsked, OtherNode, OtherLength, NotTheReply}
 use Rattle.reply.specs.declared.Content.the-variants.{Empty}
@@ -38,16 +39,12 @@ use Rattle.claims_master.specs.AnswerTable.{buildRows, readingRows}
 -- ---- builds
 
 module _ (s : Setup) (r : Request) (net out : List ℕ) where
-  outcome-number : (a : BuildAnswer) → outcomeOf a (telegramFor s r net) out .built .answer ≡ a
-  outcome-number Done = refl
-  outcome-number (Refused fault) = refl
-
   pub build-exactly : Chosen (buildRows s r net (length out)) 0 (builtNumber (builtOf s r net out .built .answer))
   unfolding builtOf admitted
   build-exactly =
       let rows : List (Bool × BuildAnswer) = (not (setupOk s), Refused BadSetup) ∷ (not (expressible s r net), Refused NotExpressible) ∷ (ltb (length out) 256, Refused ShortBuffer) ∷ [] in
       subst (λ (n : ℕ). Chosen (buildRows s r net (length out)) 0 n)
-      (sym (ap builtNumber (outcome-number (admitted s (expressible s r net) (length out))) ∙ first-read builtNumber rows Done))
+      (sym (ap builtNumber (outcome-answer (admitted s (expressible s r net) (length out)) (telegramFor s r net) out) ∙ first-read builtNumber rows Done))
       (first-chosen (buildRows s r net (length out)) 0)
 
   pub refused-build-keeps : (fault : BuildFault) → builtOf s r net out .built .answer ≡ Refused fault
@@ -55,7 +52,7 @@ module _ (s : Setup) (r : Request) (net out : List ℕ) where
   unfolding builtOf
   refused-build-keeps fault e =
       let a = admitted s (expressible s r net) (length out) in
-      rw (sym (outcome-number a) ∙ e) (refl, refl)
+      rw (sym (outcome-answer a (telegramFor s r net) out) ∙ e) (refl, refl)
 
 -- ---- readings
 

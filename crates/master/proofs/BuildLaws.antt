@@ -40,7 +40,7 @@ pub record Buildable (s : Setup) (r : Request) (net out : List ℕ) : Type 0 whe
   pub passed : Admitted s (expressible s r net) (length out)
   pub is : builtOf s r net out ≡ sent (telegramFor s r net) out
 
-outcome-answer : (a : BuildAnswer) (telegram out : List ℕ) → outcomeOf a telegram out .built .answer ≡ a
+pub outcome-answer : (a : BuildAnswer) (telegram out : List ℕ) → outcomeOf a telegram out .built .answer ≡ a
 outcome-answer Done telegram out = refl
 outcome-answer (Refused fault) telegram out = refl
 
