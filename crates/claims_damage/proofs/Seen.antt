@@ -13,8 +13,8 @@ use Prim.Native.Nat.{ℕ, _+_, _*_, _/_, _%_, _^_, _<_}
 use native.Mathlib.Nat.{zero-div}
 use native.Mathlib.Omega.{arith}
 use borrow.Author.Tests.{le-ltb, eq-eqb, ne-eqb}
-use lib.Bits.{bitXor, xor-self, xor-zero-r}
-use lib.ListN.{length, take}
+use lib.Bits.{bitXor, xor-zero-r}
+use lib.ListN.{length}
 use Rattle.rows.specs.Bits.{bit}
 use Rattle.words.specs.Words.{byteAt}
 use Rattle.frame.specs.Bcc.{xorAll}
@@ -23,21 +23,10 @@ use Rattle.frame.specs.declared.FrameFault.the-variants.{Count}
 use Rattle.frame.specs.declared.FrameCheck.{FrameCheck}
 use Rattle.frame.specs.declared.FrameCheck.the-variants.{Sound, Broken}
 use Rattle.frame.proofs.NumberLaws.{frame-between}
-use Rattle.frame.proofs.XorLaws.{xor-snoc, xor-all-lt, xor-eq, xor-fix, length-zip, getD-zip, xor-zip}
-use Rattle.frame.proofs.FrameLaws.{split-last, Counted, sound-framed, framed-sound}
+use Rattle.frame.proofs.XorLaws.{xor-all-lt, xor-fix, length-zip, getD-zip, xor-zip}
+use Rattle.frame.proofs.FrameLaws.{Counted, sound-framed, framed-sound, zero-of-check, check-of-zero}
 use Rattle.claims_damage.specs.Damage.{damaged, Damage, flips, Passes, Refuses, Unseen, Hit, OneByte, bitAt, Order, Burst}
 use Rattle.claims_damage.proofs.Parity.{zero-digits, one-digit, digit-parity, single}
-
--- ---- the check byte is right exactly where the XOR of the whole is 0
-
-xor-last : (t : List ℕ) → 0 < length t → xorAll t ≡ bitXor (xorAll (take (lastOf t) t)) (byteAt t (lastOf t))
-xor-last t h = ap xorAll (split-last t h) ∙ xor-snoc (take (lastOf t) t) (byteAt t (lastOf t))
-
-zero-of-check : (t : List ℕ) → 0 < length t → byteAt t (lastOf t) ≡ xorAll (take (lastOf t) t) → xorAll t ≡ 0
-zero-of-check t h e = xor-last t h ∙ ap (λ (x : ℕ). bitXor (xorAll (take (lastOf t) t)) x) e ∙ xor-self (xorAll (take (lastOf t) t))
-
-check-of-zero : (t : List ℕ) → 0 < length t → xorAll t ≡ 0 → byteAt t (lastOf t) ≡ xorAll (take (lastOf t) t)
-check-of-zero t h e = sym (xor-eq (xorAll (take (lastOf t) t)) (byteAt t (lastOf t)) (sym (xor-last t h) ∙ e))
 
 -- ---- the exact line
 

@@ -6,14 +6,15 @@ use Prim.Native.Nat.{ℕ, suc, _+_, _-_, _≤_, _<_}
 use native.Mathlib.Omega.{arith}
 use borrow.Author.Tests.{ltb-false, eqb-true, le-ltb, eq-eqb, ne-eqb, not-false}
 use lib.Dec.{ltb, eqb}
-use lib.Bits.{bitXor}
-use lib.ListN.{length, take, drop}
+use lib.Bits.{bitXor, xor-self}
+use lib.ListN.{length, take}
 use lib.Seq.{take-suc, take-length}
 use Rattle.rows.proofs.RowsLaws.{row-passed}
 use Rattle.rows.proofs.BoolLaws.{or-left, or-right}
 use Rattle.words.specs.Words.{byteAt}
 use Rattle.frame.specs.Bcc.{xorAll}
 use Rattle.frame.specs.Frame.{frameOf, lastOf, isSound}
+use Rattle.frame.proofs.XorLaws.{xor-snoc, xor-eq}
 use Rattle.frame.specs.declared.FrameFault.the-variants.{Short, Start, Length, Count, Check}
 use Rattle.frame.specs.declared.FrameCheck.the-variants.{Sound, Broken}
 
@@ -71,23 +72,16 @@ check-wrong t k n =
 pub framed-sound : (t : List ℕ) → Framed t → frameOf t ≡ Sound (lastOf t)
 framed-sound t f = check-right t (f .counted) (f .check)
 
--- ---- the same as the code reckons it: LGE + 1 is the place of BCC, and 02, LGE and ADR are mixed into the XOR of the net bytes
+-- ---- the same as the code reckons it: LGE + 1 is the place of BCC, which is right exactly where the XOR of all bytes is 0
 
 pub last-counted : (t : List ℕ) → Counted t → byteAt t 1 + 1 ≡ lastOf t
 last-counted t k = omega arith
 
-three-first : (t : List ℕ) (m : ℕ) → 3 ≤ length t → xorAll (take (suc (suc (suc m))) t) ≡ bitXor (byteAt t 0) (bitXor (byteAt t 1) (bitXor (byteAt t 2) (xorAll (take m (drop 3 t)))))
-unfolding xorAll
-three-first [] m h = absurd (omega arith)
-three-first (x ∷ []) m h = absurd (omega arith)
-three-first (x ∷ y ∷ []) m h = absurd (omega arith)
-three-first (x ∷ y ∷ z ∷ t) m h = refl
+xor-last : (t : List ℕ) → 0 < length t → xorAll t ≡ bitXor (xorAll (take (lastOf t) t)) (byteAt t (lastOf t))
+xor-last t h = ap xorAll (split-last t h) ∙ xor-snoc (take (lastOf t) t) (byteAt t (lastOf t))
 
--- the XOR of the net bytes
-abbrev pub restOf : List ℕ → ℕ
-restOf t = xorAll (take (byteAt t 1 + 1 - 3) (drop 3 t))
+pub zero-of-check : (t : List ℕ) → 0 < length t → byteAt t (lastOf t) ≡ xorAll (take (lastOf t) t) → xorAll t ≡ 0
+zero-of-check t h e = xor-last t h ∙ ap (λ (x : ℕ). bitXor (xorAll (take (lastOf t) t)) x) e ∙ xor-self (xorAll (take (lastOf t) t))
 
-pub reckoned : (t : List ℕ) → Counted t → bitXor 2 (bitXor (byteAt t 1) (bitXor (byteAt t 2) (restOf t))) ≡ xorAll (take (lastOf t) t)
-reckoned t k =
-    let e : suc (suc (suc (byteAt t 1 + 1 - 3))) ≡ lastOf t = omega arith in
-    sym (rw (← e, three-first t (byteAt t 1 + 1 - 3) (omega arith), k .start))
+pub check-of-zero : (t : List ℕ) → 0 < length t → xorAll t ≡ 0 → byteAt t (lastOf t) ≡ xorAll (take (lastOf t) t)
+check-of-zero t h e = sym (xor-eq (xorAll (take (lastOf t) t)) (byteAt t (lastOf t)) (sym (xor-last t h) ∙ e))

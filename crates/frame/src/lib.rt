@@ -93,8 +93,8 @@ pub fn bcc(bytes: &[u8]) -> u8
     ((word % 256) ^ (word / 256)) as u8
 }
 
-// The frame check: 10 to 14, in the document's order. No byte is looked for by LGE before the byte count agreed with it,
-// and each byte is read once: the XOR goes over the net bytes, and the three bytes before them are mixed in.
+// The frame check: 10 to 14, in the document's order. No byte is looked for by LGE before the byte count agreed with it. BCC is
+// right where the XOR of all bytes, itself included, is 0.
 pub fn check(received: &[u8]) -> FrameCheck
     ensures { λ r. ⌜ r ≡ frameOf (now (received .entry)) ⌝ }
 {
@@ -105,23 +105,21 @@ pub fn check(received: &[u8]) -> FrameCheck
     if received[0] != 2 {
         return FrameCheck::Broken(FrameFault::Start);
     }
-    let second = received[1];
-    let lge = second as usize;
+    let lge = received[1] as usize;
     if lge < 3 {
         return FrameCheck::Broken(FrameFault::Length);
     }
     if 254 < lge {
         return FrameCheck::Broken(FrameFault::Length);
     }
-    if n != lge + 2 {
+    let end = lge + 2;
+    if n != end {
         return FrameCheck::Broken(FrameFault::Count);
     }
-    let last = lge + 1;
-    let rest = bcc(&received[3..last]);
-    if received[last] != 2 ^ (second ^ (received[2] ^ rest)) {
+    if bcc(&received[..end]) != 0 {
         return FrameCheck::Broken(FrameFault::Check);
     }
-    FrameCheck::Sound { net_end: last }
+    FrameCheck::Sound { net_end: lge + 1 }
 }
 
 // The address byte by its bits: 0 to 4 node, 5 broadcast, 6 mirror, 7 must be 0; 5 and 6 together are refused.

@@ -138,9 +138,6 @@ pub fn write_normal(out: &mut [u8], adr: u8, area: Area, n: u8, process: Words, 
     if 4 < pzd {
         return 0;
     }
-    if n + pzd == 0 {
-        return 0;
-    }
     if out.len() < 256 {
         return 0;
     }
@@ -149,7 +146,11 @@ pub fn write_normal(out: &mut [u8], adr: u8, area: Area, n: u8, process: Words, 
     let second = put_words(out, count + 3, process, pzd);
     let mixed = first ^ second;
     let sum = ((mixed / 256) ^ (mixed % 256)) as u8;
-    close(out, adr, count + (pzd as usize) * 2, sum)
+    let bytes = count + (pzd as usize) * 2;
+    if bytes == 0 {
+        return 0;
+    }
+    close(out, adr, bytes, sum)
 }
 
 // ---- read
@@ -177,26 +178,29 @@ pub fn empty_area() -> Area
 pub fn read_area(t: &[u8], n: u8) -> Area
     ensures { λ r. ⌜ r ≡ areaIn (now (t .entry)) n ⌝ }
 {
-    if t.len() < (n as usize) * 2 + 3 {
-        return empty_area();
+    if (n as usize) * 2 + 3 <= t.len() {
+        if n == 3 {
+            let value = word_in(t, 7) as u32;
+            return Area {
+                pke: word_in(t, 3),
+                ind: word_in(t, 5),
+                value,
+            };
+        }
+        if n == 4 {
+            let value = join_double(word_in(t, 7), word_in(t, 9));
+            return Area {
+                pke: word_in(t, 3),
+                ind: word_in(t, 5),
+                value,
+            };
+        }
     }
-    if n == 3 {
-        let value = word_in(t, 7) as u32;
-        return Area {
-            pke: word_in(t, 3),
-            ind: word_in(t, 5),
-            value,
-        };
+    Area {
+        pke: 0,
+        ind: 0,
+        value: 0,
     }
-    if n == 4 {
-        let value = join_double(word_in(t, 7), word_in(t, 9));
-        return Area {
-            pke: word_in(t, 3),
-            ind: word_in(t, 5),
-            value,
-        };
-    }
-    empty_area()
 }
 
 // The word at a place where it is taken, else the old one.

@@ -1,6 +1,6 @@
 // What a master can ask (document 01, Answer number 31): tasks, mirrors and broadcasts.
 ghost use mathlib.Core.Path.{_≡_};
-ghost use Rattle.request.specs.Request.{usedOrZero, unusedZero, valueFits, taskFits, taskAskable, commandOf, expressible};
+ghost use Rattle.request.specs.Request.{unusedZero, valueFits, taskFits, taskAskable, commandOf, expressible};
 ghost use mathlib.Core.Bool.{not, _&&_};
 ghost use Rattle.task.specs.declared.Act.the-variants.{Change};
 ghost use Rattle.broadcast.specs.Broadcast.{isVoid};
@@ -28,27 +28,32 @@ pub enum Request {
     },
 }
 
-// Whether a word is used, or 0.
-fn used_or_zero(used: bool, w: u16) -> bool
-    ensures { λ r. ⌜ r ≡ usedOrZero used w ⌝ }
-{
-    if used { true } else { w == 0 }
-}
-
-// Whether the words past the first pzd are 0.
+// Whether the words past the first pzd are 0, from the last one back.
 fn leaves_zero(pzd: u8, w: Words) -> bool
     ensures { λ r. ⌜ r ≡ unusedZero pzd w ⌝ }
 {
-    if !used_or_zero(0 < pzd, w.w1) {
+    if 3 < pzd {
+        return true;
+    }
+    if w.w4 != 0 {
         return false;
     }
-    if !used_or_zero(1 < pzd, w.w2) {
+    if 2 < pzd {
+        return true;
+    }
+    if w.w3 != 0 {
         return false;
     }
-    if !used_or_zero(2 < pzd, w.w3) {
+    if 1 < pzd {
+        return true;
+    }
+    if w.w2 != 0 {
         return false;
     }
-    used_or_zero(3 < pzd, w.w4)
+    if 0 < pzd {
+        return true;
+    }
+    w.w1 == 0
 }
 
 // Whether a change of this width can carry the value in an area of pkw words.

@@ -15,16 +15,14 @@ pub fn setup_ok(setup: Setup) -> bool
     if 31 < setup.node {
         return false;
     }
-    if setup.pkw != 0 && setup.pkw != 3 && setup.pkw != 4 {
-        return false;
-    }
-    if 4 < setup.pzd {
-        return false;
-    }
     if setup.pkw == 0 {
-        return setup.pzd != 0;
+        if setup.pzd == 0 {
+            return false;
+        }
+    } else if setup.pkw != 3 && setup.pkw != 4 {
+        return false;
     }
-    true
+    setup.pzd <= 4
 }
 
 // The net bytes of a telegram of the set-up.

@@ -3,6 +3,7 @@ use mathlib.Core.Path.{_≡_, refl}
 use mathlib.Core.Bool.{Bool, true, false, not, _&&_, _||_, cond}
 use mathlib.Core.List.{List}
 use Prim.Native.Nat.{ℕ, _+_, _*_, _/_, _%_, _≤_, _<_}
+use native.Mathlib.Decide.{decLt}
 use native.Mathlib.Omega.{arith}
 use borrow.Author.Tests.{eqb-false, leb-false, lt-ltb, le-ltb, not-false}
 use lib.Dec.{eqb, leb, lit<}
@@ -22,10 +23,13 @@ use Rattle.task.specs.declared.Task.{Task}
 use Rattle.task.specs.declared.ParameterError.{ParameterError}
 use Rattle.task.specs.declared.ParameterError.the-variants.{NoParameter}
 use Rattle.task.specs.declared.Verdict.the-variants.{Granted, Denied}
+use Rattle.rows.proofs.RangeLaws.{between}
+use Rattle.task.specs.Task.{tasks, taskOf}
 use Rattle.task.specs.Page.{baseOf, fullNumber}
 use Rattle.task.specs.Verdict.{changesAct, lacksElement, verdictOf, elementOf}
+use Rattle.task.proofs.TaskLaws.{refused-on}
 use Rattle.task.proofs.VerdictLaws.{granted-clear}
-use Rattle.slave.specs.Perform.{readReply, carried, errorArea, nothingDone, doneOf, verdictFor, performOn, performFound, performTask, foundOf, idle}
+use Rattle.slave.specs.Perform.{readReply, carried, errorArea, doneOf, verdictFor, performOn, performFound, performTask, foundOf, idle}
 
 pub read-reply-le : (reply : ℕ) (double : Bool) → reply ≤ 14 → readReply reply double ≤ 15
 read-reply-le reply true h = omega arith
@@ -81,6 +85,18 @@ places-single t k h c = one-each t (length t / 12) k (omega arith) c
 
 -- ---- the cases of a task
 
+-- every task but 0 is one to run or to refuse
+pub not-idle : (id : ℕ) → (id ≡ 0 → ⊥) → idle (taskOf id .act) ≡ false
+unfolding taskOf tasks
+not-idle id some = go (decLt id 15)
+  where
+    go : Dec (id < 15) → idle (taskOf id .act) ≡ false
+    go (yes h) =
+        between (λ k. idle (taskOf k .act) ≡ false) 14 1
+        (refl, (refl, (refl, (refl, (refl, (refl, (refl, (refl, (refl, (refl, (refl, (refl, (refl, (refl, tt))))))))))))))
+        id (omega arith) h
+    go (no h) = rw (refused-on id (omega arith))
+
 module _ (n : ℕ) (k : Task) (a : Area) (e : Entry) (vs : List ℕ) (first : ℕ) where
   pub task-denied : (error : ParameterError) → verdictFor n k a e ≡ Denied error → performOn n k a e vs first ≡ record { area = errorArea a error; values = vs }
   unfolding performOn
@@ -98,9 +114,6 @@ module _ (n : ℕ) (k : Task) (a : Area) (e : Entry) (vs : List ℕ) (first : �
       omega (arith, granted-element (k .act) (k .width) (k .array) (e .elements) (e .double) (e .writable) (isWithin e (carried (k .width) (a .value))) (a .ind % 256) n h)
 
 module _ (n : ℕ) (k : Task) (t vs : List ℕ) (a : Area) where
-  pub task-idle : idle (k .act) ≡ true → performTask n k t vs a ≡ nothingDone vs
-  task-idle i = rw i
-
   pub task-unnamed : idle (k .act) ≡ false → 2000 ≤ baseOf (a .pke) → performTask n k t vs a ≡ record { area = errorArea a NoParameter; values = vs }
   unfolding foundOf
   task-unnamed i h = rw (i, le-ltb _ _ h)

@@ -10,7 +10,7 @@ ghost use Rattle.task.specs.Verdict.{changesAct};
 ghost use Rattle.opening.specs.Answers.{openingOf};
 ghost use Rattle.opening.specs.declared.Opening.the-variants.{Passed};
 ghost use Rattle.setup.specs.SetupRules.{setupOk};
-ghost use Rattle.slave.specs.Perform.{replyArea, errorArea, elementCount, carried, readReply, idle, doneOf, performOn, performOf, Performs};
+ghost use Rattle.slave.specs.Perform.{replyArea, errorArea, elementCount, carried, readReply, doneOf, performOn, performOf, Performs};
 ghost use Rattle.slave.specs.Slave.{Leaves, refusedServed, taskDone, controlTaken, commandAt, normalCase, mirrorCase, broadcastCase, executeOf, callOf};
 use broadcast::Command;
 use entry::Entry;
@@ -222,28 +222,13 @@ fn first_place(t: &[u8], k: usize, count: usize) -> usize
     sum_places(t, k)
 }
 
-// Whether the act is that of task 0.
-fn is_idle(act: Act) -> bool
-    ensures { λ r. ⌜ r ≡ idle act ⌝ }
-{
-    match act {
-        Act::Nothing => true,
-        Act::Read => false,
-        Act::Change => false,
-        Act::Count => false,
-        Act::Refuse => false,
-    }
-}
-
 // The task in an area of n words, on a table and values that passed the opening check.
 fn perform(n: u8, table: &[u8], values: &mut [u32], area: Area) -> Area
     requires { ⌜ (length (now table) ≤ 6144) × (countsOf (entries (now table)) ≤ length (now values)) ⌝ }
     ensures { λ r. ⌜ Performs (performOf n (now (table .entry)) (now (values .entry)) area) r (now (values .exit)) ⌝ }
 {
     let id = (area.pke / 4096) as u8;
-    let task = task::task_of(id);
-    let act = task.act;
-    if is_idle(act) {
+    if id == 0 {
         return net::empty_area();
     }
     if 2000 <= area.pke % 2048 {
@@ -255,7 +240,7 @@ fn perform(n: u8, table: &[u8], values: &mut [u32], area: Area) -> Area
         Found::At(k) => {
             let e = read_record(table, k);
             let first = first_place(table, k, values.len());
-            perform_on(n, task, area, e, values, first)
+            perform_on(n, task::task_of(id), area, e, values, first)
         }
     }
 }

@@ -1,77 +1,76 @@
--- `request::leaves_zero` meets its contract: the first word that is not 0 decides. Assumes nothing.
-use mathlib.Core.Path.{sym, _∙_}
-use lib.Dec.{ltb}
-use borrow.Author.Tests.{not-true, not-false}
-use Rattle.request.specs.Request.{usedOrZero, unusedZero}
-use Rattle.rows.proofs.BoolLaws.{first-fails, second-fails, third-fails, last-decides}
-use borrow.Author.Needs.{needs}
+-- `request::leaves_zero` meets its contract: the words are looked at from the last one back. Assumes nothing.
+use Prim.Native.Nat.{ℕ, _≤_, _<_}
+use mathlib.Core.Path.{_≡_, sym}
+use mathlib.Core.Bool.{false, or-true, and-false, and-true}
+use native.Mathlib.Omega.{arith}
+use lib.Dec.{eqb}
+use borrow.Author.Tests.{le-ltb, lt-ltb, eq-eqb, ne-eqb}
+use Rattle.words.specs.declared.Words.{Words}
+use Rattle.request.specs.Request.{unusedZero}
 use Rattle.request.proofs.leaves_zero.Statement.{statement}
 use Rattle.request.proofs.leaves_zero.Tie as tie
 use Rattle.request.proofs.leaves_zero.Reads as reads
 use Rattle.request.proofs.leaves_zero.Lts as lts
-use Rattle.request.proofs.used_or_zero.Reads as used-or-zero-reads
 
-used-or-zero-requires : tie.Need-used-or-zero-requires
-used-or-zero-requires c κs = search needs
+-- a word past the first pzd that is not 0
+module _ (pzd : ℕ) (w : Words) where
+  fourth : pzd ≤ 3 → (w .w4 ≡ 0 → ⊥) → unusedZero pzd w ≡ false
+  unfolding unusedZero
+  fourth p h = simp (le-ltb 3 pzd p, ne-eqb (w .w4) 0 h, and-false)
+
+  third : pzd ≤ 2 → (w .w3 ≡ 0 → ⊥) → unusedZero pzd w ≡ false
+  unfolding unusedZero
+  third p h = simp (le-ltb 2 pzd p, ne-eqb (w .w3) 0 h, and-false)
+
+  second : pzd ≤ 1 → (w .w2 ≡ 0 → ⊥) → unusedZero pzd w ≡ false
+  unfolding unusedZero
+  second p h = simp (le-ltb 1 pzd p, ne-eqb (w .w2) 0 h, and-false)
+
+  -- the others are 0
+  first : pzd ≤ 0 → w .w2 ≡ 0 → w .w3 ≡ 0 → w .w4 ≡ 0 → unusedZero pzd w ≡ eqb (w .w1) 0
+  unfolding unusedZero
+  first p h2 h3 h4 = simp (le-ltb 0 pzd p, eq-eqb (w .w2) 0 h2, eq-eqb (w .w3) 0 h3, eq-eqb (w .w4) 0 h4, or-true, and-true)
 
 returns : tie.Need-returns
 unfolding unusedZero
-returns c =
-    let a = c .before .before .args in
-    let r1 = usedOrZero (ltb 0 (a .pzd)) (a .w .w1) in
-    let r2 = usedOrZero (ltb 1 (a .pzd)) (a .w .w2) in
-    let r3 = usedOrZero (ltb 2 (a .pzd)) (a .w .w3) in
-    let r4 = usedOrZero (ltb 3 (a .pzd)) (a .w .w4) in
-    sym (first-fails r1 r2 r3 r4 (sym (c .before .used-or-zero .ensures) ∙ not-true _ (c .if1 .taken)))
-
-used-or-zero-requires-2 : tie.Need-used-or-zero-requires-2
-used-or-zero-requires-2 c κs = search needs
+returns c = let p = c .before .args .pzd in rw (lt-ltb 0 p (omega arith), lt-ltb 1 p (omega arith), lt-ltb 2 p (omega arith), lt-ltb 3 p (c .if1 .taken))
 
 returns-2 : tie.Need-returns-2
-unfolding unusedZero
-returns-2 c =
-    let a = c .before .before .before .before .args in
-    let r1 = usedOrZero (ltb 0 (a .pzd)) (a .w .w1) in
-    let r2 = usedOrZero (ltb 1 (a .pzd)) (a .w .w2) in
-    let r3 = usedOrZero (ltb 2 (a .pzd)) (a .w .w3) in
-    let r4 = usedOrZero (ltb 3 (a .pzd)) (a .w .w4) in
-    sym (second-fails r1 r2 r3 r4 (sym (c .before .used-or-zero2 .ensures) ∙ not-true _ (c .if2 .taken)))
-
-used-or-zero-requires-3 : tie.Need-used-or-zero-requires-3
-used-or-zero-requires-3 c κs = search needs
+returns-2 c = sym (fourth _ _ (c .before .before .if1 .left) (c .if2 .taken))
 
 returns-3 : tie.Need-returns-3
 unfolding unusedZero
 returns-3 c =
-    let a = c .before .before .before .before .before .before .args in
-    let r1 = usedOrZero (ltb 0 (a .pzd)) (a .w .w1) in
-    let r2 = usedOrZero (ltb 1 (a .pzd)) (a .w .w2) in
-    let r3 = usedOrZero (ltb 2 (a .pzd)) (a .w .w3) in
-    let r4 = usedOrZero (ltb 3 (a .pzd)) (a .w .w4) in
-    sym (third-fails r1 r2 r3 r4 (sym (c .before .used-or-zero3 .ensures) ∙ not-true _ (c .if3 .taken)))
-
-used-or-zero-requires-4 : tie.Need-used-or-zero-requires-4
-used-or-zero-requires-4 c κs = search needs
+    let p = c .before .before .before .before .args .pzd in
+    simp (lt-ltb 0 p (omega arith), lt-ltb 1 p (omega arith), lt-ltb 2 p (c .if3 .taken), eq-eqb _ 0 (c .before .if2 .left), or-true)
 
 returns-4 : tie.Need-returns-4
+returns-4 c = sym (third _ _ (c .before .before .if3 .left) (c .if4 .taken))
+
+returns-5 : tie.Need-returns-5
 unfolding unusedZero
-returns-4 c =
-    let a = c .before .before .before .before .before .before .before .args in
-    let r1 = usedOrZero (ltb 0 (a .pzd)) (a .w .w1) in
-    let r2 = usedOrZero (ltb 1 (a .pzd)) (a .w .w2) in
-    let r3 = usedOrZero (ltb 2 (a .pzd)) (a .w .w3) in
-    let r4 = usedOrZero (ltb 3 (a .pzd)) (a .w .w4) in
-    c .used-or-zero4 .ensures ∙ sym (last-decides r1 r2 r3 r4 (sym (c .before .before .before .before .before .before .used-or-zero .ensures) ∙ not-false _ (c .before .before .before .before .before .if1 .left)) (sym (c .before .before .before .before .used-or-zero2 .ensures) ∙ not-false _ (c .before .before .before .if2 .left)) (sym (c .before .before .used-or-zero3 .ensures) ∙ not-false _ (c .before .if3 .left)))
+returns-5 c =
+    let d = c .before .before .before .before in
+    let p = d .before .before .before .args .pzd in
+    simp (lt-ltb 0 p (omega arith), lt-ltb 1 p (c .if5 .taken), eq-eqb _ 0 (c .before .if4 .left), eq-eqb _ 0 (d .if2 .left), or-true)
+
+returns-6 : tie.Need-returns-6
+returns-6 c = sym (second _ _ (c .before .before .if5 .left) (c .if6 .taken))
+
+returns-7 : tie.Need-returns-7
+unfolding unusedZero
+returns-7 c =
+    let e = c .before .before .before .before in
+    let d = e .before .before .before in
+    let p = d .before .before .before .args .pzd in
+    simp (lt-ltb 0 p (c .if7 .taken), eq-eqb _ 0 (c .before .if6 .left), eq-eqb _ 0 (e .if4 .left), eq-eqb _ 0 (d .if2 .left), or-true)
+
+returns-8 : tie.Need-returns-8
+returns-8 c =
+    let f = c .before .before in
+    let e = f .before .before .before in
+    let d = e .before .before .before in
+    sym (first _ _ (c .before .if7 .left) (f .if6 .left) (e .if4 .left) (d .if2 .left))
 
 pub leaves-zero-spec : {M : Type 1} → statement M
-leaves-zero-spec =
-    tie.close
-    (tie.spec
-    used-or-zero-requires
-    returns
-    used-or-zero-requires-2
-    returns-2
-    used-or-zero-requires-3
-    returns-3
-    used-or-zero-requires-4
-    returns-4)
+leaves-zero-spec = tie.close (tie.spec returns returns-2 returns-3 returns-4 returns-5 returns-6 returns-7 returns-8)

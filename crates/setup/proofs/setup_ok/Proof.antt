@@ -1,8 +1,10 @@
 -- `setup::setup_ok` meets its contract. Assumes nothing.
-use mathlib.Core.Bool.{or-true}
+use Prim.Native.Nat.{ℕ}
+use mathlib.Core.Path.{_≡_, refl}
+use mathlib.Core.Bool.{Bool, true, false, not, or-true, or-false}
 use mathlib.Core.Logic.{⊎-elim}
-use borrow.Author.Tests.{not-true, not-false}
-use lib.Dec.{eqb}
+use borrow.Author.Tests.{not-true, not-false, ltb-true, ltb-false, le-leb, lt-leb, le-ltb, eq-eqb, ne-eqb}
+use lib.Dec.{eqb, leb, ltb}
 use Rattle.rows.proofs.RowsLaws.{tests}
 use Rattle.setup.specs.SetupRules.{setupOk}
 use Rattle.setup.proofs.setup_ok.Statement.{statement}
@@ -10,31 +12,37 @@ use Rattle.setup.proofs.setup_ok.Tie as tie
 use Rattle.setup.proofs.setup_ok.Reads as reads
 use Rattle.setup.proofs.setup_ok.Lts as lts
 
+at-most : (a b : ℕ) → leb a b ≡ not (ltb b a)
+at-most a b = go (ltb b a) refl
+  where
+    go : (x : Bool) → ltb b a ≡ x → leb a b ≡ not x
+    go true e = lt-leb a b (ltb-true b a e)
+    go false e = le-leb a b (ltb-false b a e)
+
 returns : tie.Need-returns
 unfolding setupOk
 returns c = search tests
 
 returns-2 : tie.Need-returns-2
 unfolding setupOk
-returns-2 c =
-    let pkw = c .before .before .before .before .before .before .before .before .args .setup .pkw in
-    search (tests, not-true (eqb pkw 3) (c .before .before .if3 .taken), not-true (eqb pkw 4) (c .if4 .taken))
+returns-2 c = search (tests, or-true)
 
 returns-3 : tie.Need-returns-3
 unfolding setupOk
-returns-3 c = search (tests, or-true)
+returns-3 c = search (tests, not-true (eqb (c .before .before .before .before .before .before .before .before .args .setup .pkw) 4) (c .if5 .taken))
 
 returns-4 : tie.Need-returns-4
 unfolding setupOk
-returns-4 c = search tests
-
-returns-5 : tie.Need-returns-5
-unfolding setupOk
-returns-5 c =
-    let pkw = c .before .before .before .before .before .before .before .before .args .setup .pkw in
-    ⊎-elim (λ w. search (tests, not-false (eqb pkw 4) (w .4 .left), or-true))
-    (⊎-elim (λ w. search (tests, not-false (eqb pkw 3) (w .2 .left))) (λ w. absurd (c .if6 .left (w .left))))
-    (c .before .before .before .before .if2 .came)
+returns-4 c =
+    let a = c .before .before .before .before in
+    let s = a .before .args .setup in
+    let node = le-ltb 31 (s .node) (c .before .before .before .if1 .left) in
+    let few = or-false (ltb 4 (s .pzd)) in
+    rw (at-most (s .pzd) 4, node)
+    (⊎-elim (λ w. rw (eq-eqb (s .pkw) 0 (w .0 .taken), ne-eqb (s .pzd) 0 (w .2 .left), few))
+    (λ v. rw (ne-eqb (s .pkw) 0 (v .0 .left))
+    (⊎-elim (λ w. rw (not-false (eqb (s .pkw) 4) (w .2 .left), or-true (eqb (s .pkw) 3), few)) (λ w. rw (eq-eqb (s .pkw) 3 (w .left), few)) (v .2 .came)))
+    (c .before .if2 .came))
 
 pub setup-ok-spec : {M : Type 1} → statement M
-setup-ok-spec = tie.close (tie.spec returns returns-2 returns-3 returns-4 returns-5)
+setup-ok-spec = tie.close (tie.spec returns returns-2 returns-3 returns-4)
