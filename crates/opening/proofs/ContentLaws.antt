@@ -1,10 +1,12 @@
 -- The answers 21 and 22, of table and values alone. Assumes nothing.
-use Prim.Native.Nat.{ℕ, _-_, _/_, _%_, _<_}
+use Prim.Native.Nat.{ℕ, _/_, _%_, _<_}
 use mathlib.Core.Path.{_≡_, refl, _∙_}
 use mathlib.Core.List.{List}
 use mathlib.Core.Bool.{Bool, true, false, not, cond, _&&_}
-use borrow.Author.Tests.{lt-leb, eq-eqb, ne-eqb}
+use native.Mathlib.Omega.{arith}
+use borrow.Author.Tests.{lt-leb, ne-eqb, eqb-true}
 use lib.ListN.{length}
+use lib.Dec.{eqb}
 use Rattle.opening.specs.declared.Opening.the-variants.{Passed, Refused}
 use Rattle.opening.specs.declared.OpeningFault.the-variants.{BadTable, BadValues}
 use Rattle.opening.specs.Rules.{tableOk, valuesOk}
@@ -26,14 +28,17 @@ module _ (t vs : List ℕ) where
   pub content-values : (tableOk t && valuesOk t vs) ≡ false → tableOk t ≡ true → contentOf t vs ≡ Refused BadValues
   content-values h o = content-is ∙ rw (h, o)
 
-  pub content-table : (tableOk t && valuesOk t vs) ≡ false → tableOk t ≡ false → contentOf t vs ≡ Refused BadTable
-  content-table h o = content-is ∙ rw (h, o)
+  pub content-table : tableOk t ≡ false → contentOf t vs ≡ Refused BadTable
+  content-table o = content-is ∙ rw o
 
 -- a table of another length, or of more records, breaks a rule
-pub part-content : (t vs : List ℕ) → (length t % 12 ≡ 0 → ⊥) → contentOf t vs ≡ Refused BadTable
-unfolding contentOf
-part-content t vs h = simp (ne-eqb _ _ h)
+module _ (t : List ℕ) where
+  pub part-table : (length t % 12 ≡ 0 → ⊥) → tableOk t ≡ false
+  part-table h = simp (ne-eqb _ _ h)
 
-pub long-content : (t vs : List ℕ) → length t % 12 ≡ 0 → 512 < length t / 12 → contentOf t vs ≡ Refused BadTable
-unfolding contentOf
-long-content t vs h g = simp (eq-eqb _ _ h, lt-leb _ _ g)
+  pub long-table : 6144 < length t → tableOk t ≡ false
+  long-table h = go (eqb (length t % 12) 0) refl
+    where
+      go : (b : Bool) → eqb (length t % 12) 0 ≡ b → tableOk t ≡ false
+      go true p = let w = eqb-true (length t % 12) 0 p in simp (p, lt-leb (length t / 12) 512 (omega arith))
+      go false p = simp p

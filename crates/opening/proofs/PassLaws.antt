@@ -4,14 +4,16 @@ use mathlib.Core.Path.{_≡_, refl, _∙_}
 use mathlib.Core.List.{List, [], _∷_}
 use mathlib.Core.Bool.{Bool, true, false, _&&_, and-true, and-false}
 use native.Mathlib.Omega.{arith}
-use native.Mathlib.Nat.{add-zero, zero-add}
+use native.Mathlib.Nat.{add-zero, zero-add, sub-zero, zero-div}
 use borrow.Author.Tests.{le-leb, lt-leb, leb-true, leb-false, eq-eqb, eqb-true}
-use lib.ListN.{length}
+use lib.ListN.{length, take, drop}
 use lib.Dec.{eqb, leb}
 use Rattle.entry.specs.declared.Entry.{Entry}
-use Rattle.entry.specs.Fields.{countOf}
+use Rattle.entry.specs.Fields.{entryOf, countOf}
 use Rattle.entry.specs.Limits.{entryOk}
-use Rattle.table.specs.Records.{entries, entriesFrom, countsOf}
+use Rattle.table.specs.declared.Record.{Record}
+use Rattle.table.specs.Records.{recordOf, entries, entriesFrom, countsOf}
+use Rattle.table.proofs.RecordsLaws.{entries-step, entries-end, entry-part}
 use Rattle.opening.specs.Rules.{risingFrom, eachOk, runOk, runsOk, tableOk, valuesOk}
 use Rattle.opening.proofs.RecordLaws.{plainOk, entry-plain, fineOf}
 
@@ -80,21 +82,17 @@ module _ (e : Entry) (es : List Entry) (least place : ℕ) where
   pub pass-low : (vs : List ℕ) → e .number < least → passFrom vs (e ∷ es) least place ≡ false
   pass-low vs h = rw (rule-low h, and-false (leb least 32000))
 
-  -- `fine` is what the code has for the record and its values
-  pub pass-broken : (vs : List ℕ) (fine : Bool) → least ≤ e .number → fine ≡ fineOf e vs place → fine ≡ false
-      → passFrom vs (e ∷ es) least place ≡ false
-  pass-broken vs fine h q f = rw (good-step vs h, ← q, f, and-false (leb (e .number) 31999), and-false (leb least 32000))
-
-  pub pass-on : (vs : List ℕ) (fine : Bool) → least ≤ e .number → fine ≡ fineOf e vs place → fine ≡ true
-      → passFrom vs (e ∷ es) least place ≡ passFrom vs es (e .number + 1) (place + countOf e)
-  pass-on vs fine h q f = rw (good-step vs h, ← q, f) (go (leb (e .number) 31999) refl)
+  -- the record and its values, and the pass over what is left
+  pub pass-step : (vs : List ℕ) → least ≤ e .number
+      → passFrom vs (e ∷ es) least place ≡ (fineOf e vs place && passFrom vs es (e .number + 1) (place + countOf e))
+  pass-step vs h = rw (good-step vs h) (go (leb (e .number) 31999) refl)
     where
       rest : Bool
       rest = goodFrom vs es (e .number + 1) (place + countOf e)
 
-      go : (b : Bool) → leb (e .number) 31999 ≡ b → (leb least 32000 && (b && true && rest)) ≡ (leb (e .number + 1) 32000 && rest)
+      go : (b : Bool) → leb (e .number) 31999 ≡ b → (leb least 32000 && (b && fineOf e vs place && rest)) ≡ (fineOf e vs place && (leb (e .number + 1) 32000 && rest))
       go true p = let n = leb-true (e .number) 31999 p in rw (le-leb least 32000 (omega arith), le-leb (e .number + 1) 32000 (omega arith))
-      go false p = let n = leb-false (e .number) 31999 p in rw (lt-leb (e .number + 1) 32000 (omega arith), and-false (leb least 32000))
+      go false p = let n = leb-false (e .number) 31999 p in rw (lt-leb (e .number + 1) 32000 (omega arith), and-false (leb least 32000), and-false (fineOf e vs place))
 
 -- no record is left
 module _ (least place : ℕ) where
@@ -113,15 +111,29 @@ module _ (least place : ℕ) where
   pass-end vs l h = rw (le-leb _ _ l, rule-end, le-leb _ _ h) (simp (add-zero, and-true))
 
 -- all records of a table of n whole ones
-module _ (t : List ℕ) (n : ℕ) (whole : length t ≡ 12 * n) (few : n ≤ 512) where
-  pub rule-all : tableOk t ≡ ruledFrom (entriesFrom t n 0) 0 0
-  unfolding entries
-  rule-all =
-      let count : length t / 12 ≡ n = omega arith in
-      rw (eq-eqb (length t % 12) 0 (omega arith), le-leb (length t / 12) 512 (omega arith), count, zero-add)
+pub rule-all : (t : List ℕ) (n : ℕ) → length t ≡ 12 * n → n ≤ 512 → tableOk t ≡ ruledFrom (entriesFrom t n 0) 0 0
+unfolding entries
+rule-all t n whole few =
+    let count : length t / 12 ≡ n = omega arith in
+    rw (eq-eqb (length t % 12) 0 (omega arith), le-leb (length t / 12) 512 (omega arith), count, zero-add)
 
-  pub pass-all : (vs : List ℕ) → (tableOk t && valuesOk t vs) ≡ passFrom vs (entriesFrom t n 0) 0 0
+-- the records of a table from a byte place on
+abbrev pub entriesAt : List ℕ → ℕ → List Entry
+entriesAt t at = entriesFrom t (length t / 12 - at / 12) (at / 12)
+
+module _ (t : List ℕ) (whole : length t % 12 ≡ 0) where
+  pub pass-all : (vs : List ℕ) → length t ≤ 6144 → (tableOk t && valuesOk t vs) ≡ passFrom vs (entriesAt t 0) 0 0
   unfolding entries
-  pass-all vs =
-      let count : length t / 12 ≡ n = omega arith in
-      rw (rule-all, count, zero-add)
+  pass-all vs few = rw (rule-all t (length t / 12) (omega arith) (omega arith), zero-div, sub-zero, zero-add)
+
+  pub at-end : (at : ℕ) → length t ≤ at → entriesAt t at ≡ []
+  at-end at h = entries-end t (length t / 12) (at / 12) (omega arith)
+
+  -- the first is the one that was read there
+  pub at-step : (at m : ℕ) (r : Record) → at % 12 ≡ 0 → at < length t → m ≡ 12 → r ≡ recordOf (take m (drop at t))
+      → entriesAt t at ≡ entryOf (r .head) (r .minimum) (r .maximum) ∷ entriesAt t (at + 12)
+  at-step at m r here there twelve q =
+      let place : 12 * (at / 12) ≡ at = omega arith in
+      let more : (at + 12) / 12 ≡ at / 12 + 1 = omega arith in
+      let e = rw place at (entry-part t (at / 12) m (omega arith) twelve) in
+      entries-step t (length t / 12) (at / 12) (omega arith) ∙ rw (q, more, e)

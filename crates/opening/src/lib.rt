@@ -2,11 +2,11 @@
 // whether all is in order; only where it is not, the table is gone through by itself, since its rules come first.
 ghost use mathlib.Core.Path.{_≡_};
 ghost use mathlib.Core.Bool.{true, _&&_};
-ghost use Prim.Native.Nat.{_+_, _*_, _≤_};
+ghost use Prim.Native.Nat.{_+_, _*_, _%_, _≤_};
 ghost use lib.Dec.{eqb, leb};
 ghost use lib.ListN.{length};
 ghost use Rattle.words.specs.Words.{doubleAt};
-ghost use Rattle.entry.specs.Fields.{countOf};
+ghost use Rattle.entry.specs.Fields.{entryOf, countOf};
 ghost use Rattle.entry.specs.Limits.{limitsOk, isWithin};
 ghost use Rattle.opening.specs.Rules.{runOk, tableOk, valuesOk};
 ghost use Rattle.opening.specs.Answers.{contentOf, openingOf};
@@ -101,21 +101,22 @@ struct Run {
     fine: bool,
 }
 
-// The record's number is left to the pass.
-fn check_record(e: Entry, values: &[u32], place: usize) -> Run
+// The record's number is left to the pass. No array and no spare bit is one test of the head.
+fn check_record(raw: Record, values: &[u32], place: usize) -> Run
     requires { ⌜ place ≤ 1000000 ⌝ }
-    ensures { λ r. ⌜ (r .fine ≡ (leb (e .elements) 254 && eqb (e .spare) 0 && limitsOk e && leb (place + countOf e) (length (now (values .entry))) && runOk e (now (values .entry)) (countOf e) place)) × (r .fine ≡ true → r .next ≡ place + countOf e) ⌝ }
+    ensures { λ r. let e = entryOf (raw .head) (raw .minimum) (raw .maximum) in ⌜ (r .fine ≡ (leb (e .elements) 254 && eqb (e .spare) 0 && limitsOk e && leb (place + countOf e) (length (now (values .entry))) && runOk e (now (values .entry)) (countOf e) place)) × (r .fine ≡ true → r .next ≡ place + countOf e) ⌝ }
 {
+    let e = entry_of(raw.head, raw.minimum, raw.maximum);
+    if raw.head % 16384 == 0 {
+        return Run {
+            next: place + 1,
+            fine: value_holds(e, values, place),
+        };
+    }
     if e.spare != 0 {
         return Run {
             next: place,
             fine: false,
-        };
-    }
-    if e.elements == 0 {
-        return Run {
-            next: place + 1,
-            fine: value_holds(e, values, place),
         };
     }
     if 254 < e.elements {
@@ -133,37 +134,36 @@ fn check_record(e: Entry, values: &[u32], place: usize) -> Run
 
 // ---- the table and its values
 
-// Whether n records and their values are all in order. The number is the upper fifteen bits of a head, so that heads are compared,
-// with the least one that may follow; and numbers rise, so that the last one alone tells whether one is over 31999.
-fn in_order(t: &[u8], values: &[u32], n: usize) -> bool
-    requires { ⌜ (length (now t) ≡ 12 * n) × (n ≤ 512) ⌝ }
+// Whether the records of a table and their values are all in order. The number is the upper fifteen bits of a head, so that heads
+// are compared, the next one with the greatest of the number before it; and numbers rise, so that the last one alone tells whether
+// one is over 31999.
+fn in_order(t: &[u8], values: &[u32]) -> bool
+    requires { ⌜ (length (now t) % 12 ≡ 0) × (length (now t) ≤ 6144) ⌝ }
     ensures { λ r. ⌜ r ≡ (tableOk (now (t .entry)) && valuesOk (now (t .entry)) (now (values .entry))) ⌝ }
 {
-    if n == 0 {
+    if t.len() == 0 {
         return 0 == values.len();
     }
-    let mut least: u64 = 0;
     let mut place: usize = 0;
-    let mut k: usize = 0;
-    let mut next = record_at(t, 0);
+    let mut at: usize = 0;
+    let mut next = record_of(&t[0..12]);
     loop {
-        let e = entry_of(next.head, next.minimum, next.maximum);
-        if (next.head as u64) < least {
-            return false;
-        }
-        let run = check_record(e, values, place);
+        let run = check_record(next, values, place);
         if !run.fine {
             return false;
         }
-        least = (next.head / 131072) as u64 * 131072 + 131072;
+        let last = next.head / 131072 * 131072 + 131071;
         place = run.next;
-        k += 1;
-        if n <= k {
+        at += 12;
+        if t.len() <= at {
             break;
         }
-        next = record_at(t, k);
+        next = record_of(&t[at..at + 12]);
+        if next.head <= last {
+            return false;
+        }
     }
-    if 32000 * 131072 < least {
+    if 32000 * 131072 <= next.head {
         return false;
     }
     if 4096 < place {
@@ -200,17 +200,16 @@ fn table_ok(t: &[u8], n: usize) -> bool
 fn check_content(t: &[u8], values: &[u32]) -> Opening
     ensures { λ r. ⌜ r ≡ contentOf (now (t .entry)) (now (values .entry)) ⌝ }
 {
+    if 6144 < t.len() {
+        return Opening::Refused(OpeningFault::BadTable);
+    }
     if t.len() % 12 != 0 {
         return Opening::Refused(OpeningFault::BadTable);
     }
-    let n = t.len() / 12;
-    if 512 < n {
-        return Opening::Refused(OpeningFault::BadTable);
-    }
-    if in_order(t, values, n) {
+    if in_order(t, values) {
         return Opening::Passed;
     }
-    if table_ok(t, n) {
+    if table_ok(t, t.len() / 12) {
         return Opening::Refused(OpeningFault::BadValues);
     }
     Opening::Refused(OpeningFault::BadTable)

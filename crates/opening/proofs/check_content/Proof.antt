@@ -2,7 +2,8 @@
 use mathlib.Core.Path.{sym, _∙_}
 use native.Mathlib.Omega.{arith}
 use denote.Ref.{now}
-use Rattle.opening.proofs.ContentLaws.{content-passed, content-values, content-table, part-content, long-content}
+use Rattle.opening.proofs.ContentLaws.{content-passed, content-values, content-table, part-table, long-table}
+use borrow.Author.Needs.{needs}
 use Rattle.opening.proofs.check_content.Statement.{statement}
 use Rattle.opening.proofs.check_content.Tie as tie
 use Rattle.opening.proofs.check_content.Reads as reads
@@ -13,15 +14,15 @@ use Rattle.opening.proofs.table_ok.Reads as table-ok-reads
 returns : tie.Need-returns
 returns c =
     let a = c .before .before .before .args in
-    sym (part-content (now (a .t)) (now (a .values)) (c .if1 .taken))
+    sym (content-table (now (a .t)) (now (a .values)) (long-table (now (a .t)) (omega arith)))
 
 returns-2 : tie.Need-returns-2
 returns-2 c =
     let a = c .before .before .before .before .args in
-    sym (long-content (now (a .t)) (now (a .values)) (c .before .if1 .left) (omega arith))
+    sym (content-table (now (a .t)) (now (a .values)) (part-table (now (a .t)) (c .if2 .taken)))
 
 in-order-requires : tie.Need-in-order-requires
-in-order-requires c κs = omega arith
+in-order-requires c κs = search needs
 
 returns-3 : tie.Need-returns-3
 returns-3 c =
@@ -30,7 +31,7 @@ returns-3 c =
     sym (content-passed (now (a .t)) (now (a .values)) (sym (o .in-order .ensures) ∙ c .if3 .taken))
 
 table-ok-requires : tie.Need-table-ok-requires
-table-ok-requires c κs = omega arith
+table-ok-requires c κs = search needs
 
 returns-4 : tie.Need-returns-4
 returns-4 c =
@@ -42,10 +43,10 @@ returns-4 c =
 returns-5 : tie.Need-returns-5
 returns-5 c =
     let k = c .before in
-    let o = k .before .before in
-    let a = o .before .before .before .before .before .args in
-    sym (content-table (now (a .t)) (now (a .values)) (sym (o .in-order .ensures) ∙ k .before .if3 .left) (sym (k .table-ok .ensures) ∙ c .if4 .left))
+    let a = k .before .before .before .before .before .before .before .args in
+    sym (content-table (now (a .t)) (now (a .values)) (sym (k .table-ok .ensures) ∙ c .if4 .left))
 
 pub check-content-spec : {M : Type 1} → statement M
 check-content-spec =
-    tie.close (tie.spec returns returns-2 in-order-requires returns-3 table-ok-requires returns-4 returns-5)
+    tie.close
+    (tie.spec returns returns-2 in-order-requires returns-3 table-ok-requires returns-4 returns-5)

@@ -1,167 +1,173 @@
 -- `opening::in_order` meets its contract. Assumes nothing.
 use Prim.Native.Nat.{ℕ, _+_, _-_, _*_, _/_, _%_, _≤_, _<_}
-use mathlib.Core.Path.{_≡_, refl, sym, ap, _∙_}
-use mathlib.Core.Bool.{_&&_}
+use mathlib.Core.Path.{_≡_, refl, sym, _∙_}
+use mathlib.Core.Bool.{Bool, _&&_}
 use mathlib.Core.List.{List, [], _∷_}
-use native.Mathlib.Nat.{sub-zero}
 use native.Mathlib.Omega.{arith}
 use borrow.Author.Tests.{not-true, not-false}
 use borrow.Author.Needs.{needs}
+use lib.ListN.{length}
 use denote.Ref.{now}
 use Rattle.entry.specs.declared.Entry.{Entry}
 use Rattle.entry.specs.Fields.{entryOf, countOf}
-use Rattle.words.specs.Words.{doubleAt}
-use Rattle.table.specs.Records.{entryAt, entriesFrom}
-use Rattle.table.proofs.RecordsLaws.{entries-step, entries-end, count-at-le}
+use Rattle.entry.proofs.LimitsLaws.{count-le}
+use Rattle.table.specs.declared.Record.{Record}
 use Rattle.opening.specs.Rules.{tableOk, valuesOk}
-use Rattle.opening.proofs.PassLaws.{passFrom, pass-all, pass-low, pass-broken, pass-on, pass-high, pass-over, pass-end}
+use Rattle.opening.proofs.RecordLaws.{fineOf}
+use Rattle.opening.proofs.PassLaws.{passFrom, pass-low, pass-step, pass-high, pass-over, pass-end, entriesAt, pass-all, at-end, at-step}
 use Rattle.opening.proofs.in_order.Statement.{statement}
 use Rattle.opening.proofs.in_order.Tie as tie
 use Rattle.opening.proofs.in_order.Reads as reads
 use Rattle.opening.proofs.in_order.Lts as lts
-use Rattle.entry.proofs.entry_of.Reads as entry-of-reads
 use Rattle.opening.proofs.check_record.Reads as check-record-reads
-use Rattle.opening.proofs.record_at.Reads as record-at-reads
+use Rattle.table.proofs.record_of.Reads as record-of-reads
 
+abbrev entry : Record → Entry
+entry r = entryOf (r .head) (r .minimum) (r .maximum)
+
+-- its number is in its head
+number-is : (r : Record) → entry r .number ≡ r .head / 131072
+unfolding entryOf
+number-is r = refl
+
+-- the record that was read, its values, and the pass over what is left
 abbrev Inv-loop : tie.InvT-loop
-Inv-loop t values n least₀ place₀ k₀ next₀ least place k next =
-    (k < n) × (place ≤ 255 * k) × ((tableOk t && valuesOk t values) ≡ passFrom values (entriesFrom t (n - k) k) (least / 131072) place)
-    × (next .head ≡ doubleAt t (12 * k)) × (next .minimum ≡ doubleAt t (12 * k + 4)) × (next .maximum ≡ doubleAt t (12 * k + 8)) × (least % 131072 ≡ 0)
+Inv-loop t values place₀ at₀ next₀ place at next =
+    (at % 12 ≡ 0) × (at < length t) × (place ≤ 255 * (at / 12))
+    × ((tableOk t && valuesOk t values) ≡ (fineOf (entry next) values place && passFrom values (entriesAt t (at + 12)) (entry next .number + 1) (place + countOf (entry next))))
 
 abbrev μ-loop : tie.MeasureT-loop
-μ-loop t values n least₀ place₀ k₀ next₀ least place k next = n - k
+μ-loop t values place₀ at₀ next₀ place at next = length t - at
 
--- the record that was read is record k
-is-record : (c : tie.After-entry-of Inv-loop μ-loop) → (let l = c .before in c .entry-of .result ≡ entryAt (now (l .before .before .before .before .before .args .t)) (l .loop .k))
-unfolding entryAt
-is-record c = let i = c .before .loop .inv in c .entry-of .ensures ∙ rw (i .3, i .4, i .5)
+-- what the loop goes over, and what is asked of it
+abbrev start : tie.At-loop Inv-loop μ-loop → tie.Start Inv-loop μ-loop
+start l = l .before .before .before .before .before .before
 
--- its number is in the head that was read
-number-is : (c : tie.After-entry-of Inv-loop μ-loop) → c .entry-of .result .number ≡ c .before .loop .next .head / 131072
-unfolding entryOf
-number-is c = ap (λ (x : Entry). x .number) (c .entry-of .ensures)
+abbrev table-of : tie.At-loop Inv-loop μ-loop → List ℕ
+table-of l = now (start l .args .t)
 
-head-few : (l : tie.At-loop Inv-loop μ-loop) → l .loop .next .head < 4294967296
-head-few l =
-    let b = l .before .before .before .before .shared-slice-known .given in
-    let k = 12 * l .loop .k in
-    omega (arith, l .loop .inv .3, b k, b (k + 1), b (k + 2), b (k + 2 + 1))
+abbrev values-of : tie.At-loop Inv-loop μ-loop → List ℕ
+values-of l = now (start l .args .values)
 
--- and the next of the pass
-left : (c : tie.After-entry-of Inv-loop μ-loop) →
-    let l = c .before in
-    let a = l .before .before .before .before .before .args in
-    (tableOk (now (a .t)) && valuesOk (now (a .t)) (now (a .values))) ≡ passFrom (now (a .values)) (c .entry-of .result ∷ entriesFrom (now (a .t)) (a .n - (l .loop .k + 1)) (l .loop .k + 1)) (l .loop .least / 131072) (l .loop .place)
-left c =
-    let l = c .before in
-    let a = l .before .before .before .before .before .args in
-    let step = entries-step (now (a .t)) (a .n) (l .loop .k) (l .loop .inv .0) in
-    l .loop .inv .2 ∙ ap (λ (es : List Entry). passFrom (now (a .values)) es (l .loop .least / 131072) (l .loop .place)) step ∙ rw (is-record c)
+abbrev asked : tie.At-loop Inv-loop μ-loop → Bool
+asked l = tableOk (table-of l) && valuesOk (table-of l) (values-of l)
 
-rises : (c : tie.Else2 Inv-loop μ-loop) → c .before .before .before .loop .least / 131072 ≤ c .before .before .entry-of .result .number
-rises c = omega (arith, number-is (c .before .before), c .before .before .before .loop .inv .6, c .if2 .left)
-
--- it and its values are in order
-went : (c : tie.After-struct-known3 Inv-loop μ-loop) →
-    let r = c .before .before .before in
-    let d = r .before .before .before in
-    let l = d .before in
-    let a = l .before .before .before .before .before .args in
-    (tableOk (now (a .t)) && valuesOk (now (a .t)) (now (a .values))) ≡ passFrom (now (a .values)) (entriesFrom (now (a .t)) (a .n - (l .loop .k + 1)) (l .loop .k + 1)) (d .entry-of .result .number + 1) (r .check-record .result .next)
+-- the record and its values are in order
+went : (c : tie.Else2 Inv-loop μ-loop) →
+    let r = c .before .before in
+    let l = r .before in
+    asked l ≡ passFrom (values-of l) (entriesAt (table-of l) (l .loop .at + 12)) (entry (l .loop .next) .number + 1) (r .check-record .result .next)
 went c =
-    let r = c .before .before .before in
-    let d = r .before .before .before in
-    let a = d .before .before .before .before .before .before .args in
-    let f = not-false _ (c .before .if3 .left) in
-    left d ∙ pass-on _ _ _ _ (now (a .values)) _ (rises (r .before)) (r .check-record .ensures .0) f ∙ rw (← (r .check-record .ensures .1 f))
+    let r = c .before .before in
+    let f = not-false _ (c .if2 .left) in
+    r .before .loop .inv .3 ∙ rw (← (r .check-record .ensures .0), f, ← (r .check-record .ensures .1 f))
 
 -- no record is left
-ended : (c : tie.Then4 Inv-loop μ-loop) →
+ended : (c : tie.Then3 Inv-loop μ-loop) →
     let r = c .before .before .before .before in
-    let d = r .before .before .before in
-    let a = d .before .before .before .before .before .before .args in
-    (tableOk (now (a .t)) && valuesOk (now (a .t)) (now (a .values))) ≡ passFrom (now (a .values)) [] (d .entry-of .result .number + 1) (r .check-record .result .next)
+    let l = r .before in
+    asked l ≡ passFrom (values-of l) [] (entry (l .loop .next) .number + 1) (r .check-record .result .next)
 ended c =
-    let d = c .before .before .before .before .before .before .before in
-    let l = d .before in
-    let a = l .before .before .before .before .before .args in
-    went (c .before) ∙ rw (entries-end (now (a .t)) (a .n) (l .loop .k + 1) (c .if4 .taken))
+    let s = c .before .before in
+    let l = s .before .before .before in
+    went s ∙ rw (at-end (table-of l) (start l .pre .0) (l .loop .at + 12) (c .if3 .taken))
+
+-- the record that was read is the next
+on : (c : tie.After-record-of2 Inv-loop μ-loop) →
+    let r = c .before .before .before .before .before .before in
+    let l = r .before in
+    asked l ≡ passFrom (values-of l) (entry (c .record-of2 .result) ∷ entriesAt (table-of l) (l .loop .at + 12 + 12)) (entry (l .loop .next) .number + 1) (r .check-record .result .next)
+on c =
+    let s = c .before .before .before .before in
+    let l = s .before .before .before in
+    let at = l .loop .at + 12 in
+    went s ∙ rw (at-step (table-of l) (start l .pre .0) at (at + 12 - at) (c .record-of2 .result) (omega arith) (omega arith) (omega arith) (c .record-of2 .ensures))
 
 returns : tie.Need-returns Inv-loop μ-loop
-unfolding entriesFrom
 returns c =
     let a = c .before .before .before in
-    let z : _≡_ {A = ℕ} 0 (a .args .n) = sym (c .if1 .taken) in
-    sym (pass-all (now (a .args .t)) (a .args .n) (a .pre .0) (a .pre .1) (now (a .args .values)) ∙ rw (← z) (pass-end 0 0 (now (a .args .values)) (omega arith) (omega arith)))
+    let t = now (a .args .t) in
+    sym (pass-all t (a .pre .0) (now (a .args .values)) (a .pre .1) ∙ rw (at-end t (a .pre .0) 0 (omega arith)) (pass-end 0 0 (now (a .args .values)) (omega arith) (omega arith)))
 
-record-at-requires : tie.Need-record-at-requires Inv-loop μ-loop
-record-at-requires c κs = omega arith
+sub-record-of : tie.Need-sub-record-of Inv-loop μ-loop
+sub-record-of c = search needs
+
+part-record-of-start : tie.Need-part-record-of-start Inv-loop μ-loop
+part-record-of-start c = search needs
+
+part-record-of-end : tie.Need-part-record-of-end Inv-loop μ-loop
+part-record-of-end c = omega arith
+
+record-of-requires : tie.Need-record-of-requires Inv-loop μ-loop
+record-of-requires c κs = search needs
 
 loop-holds : tie.Need-loop-holds Inv-loop μ-loop
 loop-holds c =
-    let a = c .before .before .before .before .args in
-    let d = c .record-at .ensures in
-    (omega arith, omega arith, rw sub-zero (pass-all (now (a .t)) (a .n) (omega arith) (omega arith) (now (a .values))), d .0, d .1, d .2, refl)
-
-entry-of-requires : tie.Need-entry-of-requires Inv-loop μ-loop
-entry-of-requires c κs = search needs
-
-cast-if2 : tie.Need-cast-if2 Inv-loop μ-loop
-cast-if2 c = omega (arith, head-few (c .before .before))
-
-returns-2 : tie.Need-returns-2 Inv-loop μ-loop
-returns-2 c =
-    let d = c .before .before in
-    let vs = now (d .before .before .before .before .before .before .args .values) in
-    let low : d .entry-of .result .number < d .before .loop .least / 131072 = omega (arith, number-is d, d .before .loop .inv .6, c .if2 .taken) in
-    sym (left d ∙ pass-low _ _ _ _ vs low)
+    let a = c .before .before .before .before .before in
+    let t = now (a .args .t) in
+    let vs = now (a .args .values) in
+    let e = entry (c .record-of .result) in
+    let first = at-step t (a .pre .0) 0 12 (c .record-of .result) (omega arith) (omega arith) refl (c .record-of .ensures) in
+    (omega arith, omega arith, omega arith, pass-all t (a .pre .0) vs (a .pre .1) ∙ rw first (pass-step e (entriesAt t 12) 0 0 vs (omega arith)))
 
 check-record-requires : tie.Need-check-record-requires Inv-loop μ-loop
 check-record-requires c κs = omega arith
 
+returns-2 : tie.Need-returns-2 Inv-loop μ-loop
+returns-2 c =
+    let r = c .before .before in
+    let broken = not-true (r .check-record .result .fine) (c .if2 .taken) in
+    sym (r .before .loop .inv .3 ∙ rw (← (r .check-record .ensures .0), broken))
+
+mul-last : tie.Need-mul-last Inv-loop μ-loop
+mul-last c = omega arith
+
+add-last : tie.Need-add-last Inv-loop μ-loop
+add-last c = omega arith
+
+add-at : tie.Need-add-at Inv-loop μ-loop
+add-at c = omega arith
+
+add-record-of : tie.Need-add-record-of Inv-loop μ-loop
+add-record-of c = omega arith
+
+sub-record-of-2 : tie.Need-sub-record-of-2 Inv-loop μ-loop
+sub-record-of-2 c = omega arith
+
+part-record-of-start-2 : tie.Need-part-record-of-start-2 Inv-loop μ-loop
+part-record-of-start-2 c = omega arith
+
+part-record-of-end-2 : tie.Need-part-record-of-end-2 Inv-loop μ-loop
+part-record-of-end-2 c = omega arith
+
+record-of-requires-2 : tie.Need-record-of-requires-2 Inv-loop μ-loop
+record-of-requires-2 c κs = search needs
+
 returns-3 : tie.Need-returns-3 Inv-loop μ-loop
 returns-3 c =
-    let r = c .before .before in
-    let d = r .before .before .before in
-    let vs = now (d .before .before .before .before .before .before .args .values) in
-    sym (left d ∙ pass-broken _ _ _ _ vs _ (rises (r .before)) (r .check-record .ensures .0) (not-true _ (c .if3 .taken)))
-
-cast-least : tie.Need-cast-least Inv-loop μ-loop
-cast-least c = omega (arith, head-few (c .before .before .before .before .before .before .before))
-
-mul-least : tie.Need-mul-least Inv-loop μ-loop
-mul-least c = omega (arith, head-few (c .before .before .before .before .before .before .before))
-
-add-least : tie.Need-add-least Inv-loop μ-loop
-add-least c = omega (arith, head-few (c .before .before .before .before .before .before .before))
-
-add-k : tie.Need-add-k Inv-loop μ-loop
-add-k c = omega arith
-
-record-at-requires-2 : tie.Need-record-at-requires-2 Inv-loop μ-loop
-record-at-requires-2 c κs = omega arith
+    let d = c .before .before in
+    let l = d .before .before .before .before .before .before .before in
+    let e = entry (d .record-of2 .result) in
+    let last = entry (l .loop .next) .number in
+    let low : e .number < last + 1 = omega (arith, number-is (d .record-of2 .result), number-is (l .loop .next), c .if4 .taken) in
+    sym (on d ∙ pass-low e _ (last + 1) _ (values-of l) low)
 
 loop-less : tie.Need-loop-less Inv-loop μ-loop
 loop-less c = omega arith
 
 loop-again : tie.Need-loop-again Inv-loop μ-loop
 loop-again c =
-    let s = c .before .before in
-    let r = s .before .before .before in
-    let d = r .before .before .before in
-    let l = d .before in
-    let a = l .before .before .before .before .before .args in
-    let next = r .check-record .ensures .1 (not-false _ (s .before .if3 .left)) in
-    let e = ap countOf (is-record d) in
-    let n = c .record-at2 .ensures in
-    let up : d .entry-of .result .number + 1 ≡ (l .loop .next .head / 131072 * 131072 + 131072) / 131072 = omega (arith, number-is d) in (
+    let d = c .before .before in
+    let r = d .before .before .before .before .before .before in
+    let l = r .before in
+    let n = l .loop .next in
+    let e = entry (d .record-of2 .result) in
+    let up : entry n .number + 1 ≤ e .number = omega (arith, number-is (d .record-of2 .result), number-is n, c .if4 .left) in
+    let f = not-false (r .check-record .result .fine) (d .before .before .before .before .if2 .left) in (
       omega arith,
-      omega (arith, count-at-le (now (a .t)) (l .loop .k)),
-      went s ∙ ap (λ (x : ℕ). passFrom (now (a .values)) (entriesFrom (now (a .t)) (a .n - (l .loop .k + 1)) (l .loop .k + 1)) x (r .check-record .result .next)) up,
-      n .0,
-      n .1,
-      n .2,
       omega arith,
+      omega (arith, count-le (n .head) (n .minimum) (n .maximum), r .check-record .ensures .1 f),
+      on d ∙ pass-step e _ (entry n .number + 1) _ (values-of l) up,
     )
 
 mul-if5 : tie.Need-mul-if5 Inv-loop μ-loop
@@ -169,23 +175,23 @@ mul-if5 c = search needs
 
 returns-4 : tie.Need-returns-4 Inv-loop μ-loop
 returns-4 c =
-    let a = c .before .before .before .before .before .before .before .before .before .before .before .before .before .before .args in
-    let d = c .before .before .before .before .before .before .before .before in
-    let high : 32000 < d .entry-of .result .number + 1 = omega (arith, number-is d, c .if5 .taken) in
-    sym (ended (c .before) ∙ pass-high _ _ (now (a .values)) high)
+    let d = c .before .before in
+    let l = d .before .before .before .before .before in
+    let high : 32000 < entry (l .loop .next) .number + 1 = omega (arith, number-is (l .loop .next), c .if5 .taken) in
+    sym (ended d ∙ pass-high _ _ (values-of l) high)
 
 returns-5 : tie.Need-returns-5 Inv-loop μ-loop
 returns-5 c =
-    let d = c .before .before .before .before .before .before .before .before .before in
-    let a = d .before .before .before .before .before .before .args in
-    sym (ended (c .before .before) ∙ pass-over (d .entry-of .result .number + 1) _ (now (a .values)) (c .if6 .taken))
+    let d = c .before .before .before in
+    let l = d .before .before .before .before .before in
+    sym (ended d ∙ pass-over (entry (l .loop .next) .number + 1) _ (values-of l) (c .if6 .taken))
 
 returns-6 : tie.Need-returns-6 Inv-loop μ-loop
 returns-6 c =
-    let a = c .before .before .before .before .before .before .before .before .before .before .before .before .before .before .before .args in
-    let d = c .before .before .before .before .before .before .before .before .before in
-    let few : d .entry-of .result .number + 1 ≤ 32000 = omega (arith, number-is d, c .before .if5 .left) in
-    sym (ended (c .before .before) ∙ pass-end _ _ (now (a .values)) few (c .if6 .left))
+    let d = c .before .before .before in
+    let l = d .before .before .before .before .before in
+    let few : entry (l .loop .next) .number + 1 ≤ 32000 = omega (arith, number-is (l .loop .next), c .before .if5 .left) in
+    sym (ended d ∙ pass-end _ _ (values-of l) few (c .if6 .left))
 
 pub in-order-spec : {M : Type 1} → statement M
 in-order-spec =
@@ -194,18 +200,22 @@ in-order-spec =
     Inv-loop
     μ-loop
     returns
-    record-at-requires
+    sub-record-of
+    part-record-of-start
+    part-record-of-end
+    record-of-requires
     loop-holds
-    entry-of-requires
-    cast-if2
-    returns-2
     check-record-requires
+    returns-2
+    mul-last
+    add-last
+    add-at
+    add-record-of
+    sub-record-of-2
+    part-record-of-start-2
+    part-record-of-end-2
+    record-of-requires-2
     returns-3
-    cast-least
-    mul-least
-    add-least
-    add-k
-    record-at-requires-2
     loop-less
     loop-again
     mul-if5
