@@ -9,11 +9,9 @@ use Rattle.slave.specs.Slave.{Leaves, Outcome, answerNumber, callOf}
 use Rattle.request.specs.declared.Request.{Request}
 use Rattle.master.specs.declared.Built.{Built}
 use Rattle.master.specs.Build.{Builds, BuildOutcome, builtNumber, builtOf}
-use Rattle.reply.specs.declared.Reading.{Reading}
-use Rattle.reply.specs.Reply.{readNumber, readId, readValue}
 use Rattle.uss_c.specs.declared.UssWords.{UssWords}
 use Rattle.uss_c.specs.declared.UssBuilt.{UssBuilt}
-use Rattle.uss_c.specs.Host.{hostWords, hostBuilt, SlaveLeaves, BuildLeaves, ReplyGives}
+use Rattle.uss_c.specs.Host.{hostWords, hostBuilt, SlaveLeaves, BuildLeaves}
 use Rattle.uss_c.proofs.LengthLaws.{call-most, built-most}
 
 -- ---- the slave
@@ -43,14 +41,4 @@ build-leaves e b = record {
   number-is = ap (λ (x : UssBuilt). x .number) e ∙ ap (λ (x : Built). builtNumber (x .answer)) (b .answers);
   length-is = ap (λ (x : UssBuilt). x .length) e ∙ ap (λ (x : Built). x .length) (b .answers);
   bytes-are = b .bytes-are;
-}
-
-pub reply-gives : {g r : Reading} {n i v : ℕ} {k : UssWords} → r ≡ g
-    → n ≡ readNumber (r .answer) → i ≡ readId (r .answer) → v ≡ readValue (r .answer) → k ≡ hostWords (r .process)
-    → ReplyGives g (record { number = n; id = i; value = v; process = k })
-reply-gives e a b c d = record {
-  number-is = a ∙ ap (λ (x : Reading). readNumber (x .answer)) e;
-  id-is = b ∙ ap (λ (x : Reading). readId (x .answer)) e;
-  value-is = c ∙ ap (λ (x : Reading). readValue (x .answer)) e;
-  process-is = d ∙ ap (λ (x : Reading). hostWords (x .process)) e;
 }

@@ -9,7 +9,7 @@ ghost use Rattle.opening.specs.Answers.{openingNumber};
 ghost use Rattle.request.specs.declared.Request.the-variants.{Task, Mirror, Broadcast};
 ghost use Rattle.slave.specs.Slave.{refusalNumber, answerNumber, callOf};
 ghost use Rattle.master.specs.Build.{buildNumber, builtNumber, builtOf};
-ghost use Rattle.reply.specs.Reply.{readFaultNumber, contentId, contentValue, readNumber, readId, readValue, readOf};
+ghost use Rattle.reply.specs.Reply.{readFaultNumber, contentId, contentValue, readOf};
 ghost use Rattle.listing.specs.Listing.{listedOf};
 ghost use Rattle.uss_c.specs.Host.{setupOf, ownWords, hostWords, hostBuilt, SlaveLeaves, BuildLeaves, ReplyGives};
 use frame::Fault;
@@ -20,6 +20,7 @@ use opening::OpeningFault;
 use reply::Content;
 use reply::ReadAnswer;
 use reply::ReadFault;
+use reply::Reading;
 use request::Request;
 use setup::Setup;
 use slave::Answer;
@@ -170,15 +171,6 @@ fn number_read_fault(fault: ReadFault) -> u32
     }
 }
 
-fn number_read(answer: ReadAnswer) -> u32
-    ensures { λ r. ⌜ r ≡ readNumber answer ⌝ }
-{
-    match answer {
-        ReadAnswer::Read(content) => 0,
-        ReadAnswer::Unread(fault) => number_read_fault(fault),
-    }
-}
-
 fn give_content_id(content: Content) -> u32
     ensures { λ r. ⌜ r ≡ contentId content ⌝ }
 {
@@ -201,21 +193,25 @@ fn give_content_value(content: Content) -> u32
     }
 }
 
-fn give_id(answer: ReadAnswer) -> u32
-    ensures { λ r. ⌜ r ≡ readId answer ⌝ }
+// A reading as it is returned.
+fn give_reply(reading: Reading) -> UssReply
+    ensures { λ r. ⌜ ReplyGives reading r ⌝ }
 {
+    let process = give_words(reading.process);
+    let answer = reading.answer;
     match answer {
-        ReadAnswer::Read(content) => give_content_id(content),
-        ReadAnswer::Unread(fault) => 0,
-    }
-}
-
-fn give_value(answer: ReadAnswer) -> u32
-    ensures { λ r. ⌜ r ≡ readValue answer ⌝ }
-{
-    match answer {
-        ReadAnswer::Read(content) => give_content_value(content),
-        ReadAnswer::Unread(fault) => 0,
+        ReadAnswer::Read(content) => UssReply {
+            number: 0,
+            id: give_content_id(content),
+            value: give_content_value(content),
+            process,
+        },
+        ReadAnswer::Unread(fault) => UssReply {
+            number: number_read_fault(fault),
+            id: 0,
+            value: 0,
+            process,
+        },
     }
 }
 
@@ -335,13 +331,7 @@ pub extern "C" fn uss_read_reply(
         ask_task(task, parameter, index, value, process),
         received,
     );
-    let answer = reading.answer;
-    UssReply {
-        number: number_read(answer),
-        id: give_id(answer),
-        value: give_value(answer),
-        process: give_words(reading.process),
-    }
+    give_reply(reading)
 }
 
 // ---- bytes
