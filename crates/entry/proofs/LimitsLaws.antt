@@ -1,13 +1,13 @@
 -- Laws of a record's places and limits, and worked numbers. Assumes nothing.
 use Prim.Native.Nat.{ℕ, _+_, _/_, _%_, _<_, _≤_}
-use mathlib.Core.Path.{_≡_, refl}
+use mathlib.Core.Path.{_≡_, refl, _∙_}
 use mathlib.Core.List.{[], _∷_, map}
 use mathlib.Core.Bool.{Bool, true, false, cond, _&&_, and-false, false≢true}
 use native.Mathlib.Omega.{arith}
 use lib.Dec.{eqb, leb, lit≤}
 use lib.IntN.{ℤ, pos, negsuc}
 use lib.Signed.{leZ}
-use borrow.Author.Tests.{le-leb, lt-leb, eq-eqb, ne-eqb, leb-true, eqb-true, eqb-false}
+use borrow.Author.Tests.{le-leb, lt-leb, eq-eqb, ne-eqb, leb-true, leb-false, eqb-true, eqb-false}
 use Rattle.rows.proofs.BoolLaws.{and-left, and-right, and-both}
 use Rattle.entry.specs.declared.Entry.{Entry}
 use Rattle.entry.specs.Fields.{entryOf, countOf}
@@ -138,3 +138,34 @@ module _ (double : Bool) (x : ℕ) where
   pub word-unfit : double ≡ false → 65535 < x → fitsIn double x ≡ false
   unfolding fitsIn
   word-unfit d h = rw (d, lt-leb x 65535 h)
+
+-- without sign, a value that lies between a word's limits shows that it and the minimum fit, where the maximum does
+module _ (e : Entry) (v : ℕ) (word : e .double ≡ false) (plain : e .signed ≡ false) (high : e .maximum ≤ 65535) where
+  low-over : 65535 < e .minimum → (leb (e .minimum) v && leb v (e .maximum)) ≡ (limitsOk e && isWithin e v)
+  low-over h = rw (word-unfit (e .double) (e .minimum) word h) (go (leb v 65535) refl)
+    where
+      go : (x : Bool) → leb v 65535 ≡ x → (leb (e .minimum) v && leb v (e .maximum)) ≡ false
+      go true q = rw (lt-leb (e .minimum) v (omega (arith, leb-true v 65535 q)))
+      go false q = rw (lt-leb v (e .maximum) (omega (arith, leb-false v 65535 q)), and-false (leb (e .minimum) v))
+
+  value-over : 65535 < v → (leb (e .minimum) v && leb v (e .maximum)) ≡ (limitsOk e && isWithin e v)
+  unfolding isWithin
+  value-over h = rw (word-unfit (e .double) v word h, lt-leb v (e .maximum) (omega arith), and-false (leb (e .minimum) v), and-false (limitsOk e))
+
+  all-fit : e .minimum ≤ 65535 → v ≤ 65535 → (leb (e .minimum) v && leb v (e .maximum)) ≡ isWithin e v
+  unfolding isWithin atMost numberOf
+  all-fit h k =
+      let a : e .minimum % 65536 ≡ e .minimum = omega arith in
+      let b : v % 65536 ≡ v = omega arith in
+      let c : e .maximum % 65536 ≡ e .maximum = omega arith in
+      rw (fits-word (e .double) v word k, word, plain, a, b, c)
+
+  pub between-shown : (leb (e .minimum) v && leb v (e .maximum)) ≡ (limitsOk e && isWithin e v)
+  between-shown = go (leb (e .minimum) 65535) refl (leb v 65535) refl
+    where
+      go : (x : Bool) → leb (e .minimum) 65535 ≡ x → (y : Bool) → leb v 65535 ≡ y → (leb (e .minimum) v && leb v (e .maximum)) ≡ (limitsOk e && isWithin e v)
+      go false p y q = low-over (leb-false (e .minimum) 65535 p)
+      go true p false q = value-over (leb-false v 65535 q)
+      go true p true q =
+          let h = leb-true (e .minimum) 65535 p in
+          all-fit h (leb-true v 65535 q) ∙ limits-shown e v (fits-word (e .double) (e .minimum) word h) (fits-word (e .double) (e .maximum) word high)

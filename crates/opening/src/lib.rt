@@ -50,17 +50,28 @@ fn hold_both(a: bool, b: bool) -> bool
     if a { b } else { false }
 }
 
-// Whether a record's limits are in order and a value is within them: a value between limits that fit shows these in order.
+// Whether a number lies between two others, without sign.
+fn lies_between(low: u32, v: u32, high: u32) -> bool
+    ensures { λ r. ⌜ r ≡ (leb low v && leb v high) ⌝ }
+{
+    if low <= v { v <= high } else { false }
+}
+
+// Whether a record's limits are in order and a value is within them: a value between limits that fit shows these in order, and,
+// without sign, one that lies between shows that itself and the minimum fit.
 fn holds(e: Entry, v: u32) -> bool
     ensures { λ r. ⌜ r ≡ (limitsOk e && isWithin e v) ⌝ }
 {
     if e.double {
         return within(e, v);
     }
-    if 65535 < e.minimum {
+    if 65535 < e.maximum {
         return false;
     }
-    if 65535 < e.maximum {
+    if !e.signed {
+        return lies_between(e.minimum, v, e.maximum);
+    }
+    if 65535 < e.minimum {
         return false;
     }
     within(e, v)

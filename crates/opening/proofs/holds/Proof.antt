@@ -1,14 +1,16 @@
 -- `opening::holds` meets its contract. Assumes nothing.
 use mathlib.Core.Path.{sym, _∙_}
+use borrow.Author.Tests.{not-true}
 use Rattle.rows.proofs.BoolLaws.{first-fails, second-fails}
 use Rattle.entry.specs.Limits.{fitsIn, atMost, isWithin}
-use Rattle.entry.proofs.LimitsLaws.{limits-shown, fits-double, fits-word, word-unfit}
+use Rattle.entry.proofs.LimitsLaws.{limits-shown, between-shown, fits-double, fits-word, word-unfit}
 use borrow.Author.Needs.{needs}
 use Rattle.opening.proofs.holds.Statement.{statement}
 use Rattle.opening.proofs.holds.Tie as tie
 use Rattle.opening.proofs.holds.Reads as reads
 use Rattle.opening.proofs.holds.Lts as lts
 use Rattle.entry.proofs.within.Reads as within-reads
+use Rattle.opening.proofs.lies_between.Reads as lies-between-reads
 
 within-requires : tie.Need-within-requires
 within-requires c κs = search needs
@@ -20,24 +22,33 @@ returns c =
     c .within .ensures ∙ limits-shown (a .e) (a .v) (fits-double _ _ d) (fits-double _ _ d)
 
 returns-2 : tie.Need-returns-2
-returns-2 c = sym (first-fails _ _ _ _ (word-unfit _ _ (c .before .before .if1 .left) (c .if2 .taken)))
+returns-2 c =
+    let w = c .before .before in
+    let e = w .before .args .e in
+    sym (second-fails (fitsIn (e .double) (e .minimum)) _ (atMost (e .double) (e .signed) (e .minimum) (e .maximum)) (isWithin e (w .before .args .v)) (word-unfit _ _ (w .if1 .left) (c .if2 .taken)))
+
+lies-between-requires : tie.Need-lies-between-requires
+lies-between-requires c κs = search needs
 
 returns-3 : tie.Need-returns-3
 returns-3 c =
-    let w = c .before .before .before .before in
-    let e = w .before .args .e in
-    sym (second-fails (fitsIn (e .double) (e .minimum)) _ (atMost (e .double) (e .signed) (e .minimum) (e .maximum)) (isWithin e (w .before .args .v)) (word-unfit _ _ (w .if1 .left) (c .if3 .taken)))
+    let h = c .before .before .before in
+    let w = h .before .before in
+    c .lies-between .ensures ∙ between-shown _ _ (w .if1 .left) (not-true _ (c .before .if3 .taken)) (h .if2 .left)
+
+returns-4 : tie.Need-returns-4
+returns-4 c = sym (first-fails _ _ _ _ (word-unfit _ _ (c .before .before .before .before .before .before .if1 .left) (c .if4 .taken)))
 
 within-requires-2 : tie.Need-within-requires-2
 within-requires-2 c κs = search needs
 
-returns-4 : tie.Need-returns-4
-returns-4 c =
-    let o = c .before .before .before in
-    let w = o .before .before in
+returns-5 : tie.Need-returns-5
+returns-5 c =
+    let h = c .before .before .before .before .before in
+    let w = h .before .before in
     let a = w .before .args in
-    c .within2 .ensures ∙ limits-shown (a .e) (a .v) (fits-word _ _ (w .if1 .left) (o .if2 .left)) (fits-word _ _ (w .if1 .left) (c .before .if3 .left))
+    c .within2 .ensures ∙ limits-shown (a .e) (a .v) (fits-word _ _ (w .if1 .left) (c .before .if4 .left)) (fits-word _ _ (w .if1 .left) (h .if2 .left))
 
 pub holds-spec : {M : Type 1} → statement M
 holds-spec =
-    tie.close (tie.spec within-requires returns returns-2 returns-3 within-requires-2 returns-4)
+    tie.close (tie.spec within-requires returns returns-2 lies-between-requires returns-3 returns-4 within-requires-2 returns-5)

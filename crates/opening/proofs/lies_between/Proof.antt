@@ -1,0 +1,15 @@
+-- `opening::lies_between` meets its contract. Assumes nothing.
+use borrow.Author.Tests.{le-leb, lt-leb}
+use Rattle.opening.proofs.lies_between.Statement.{statement}
+use Rattle.opening.proofs.lies_between.Tie as tie
+use Rattle.opening.proofs.lies_between.Reads as reads
+use Rattle.opening.proofs.lies_between.Lts as lts
+
+returns : tie.Need-returns
+returns c = rw (le-leb _ _ (c .if1 .taken))
+
+returns-2 : tie.Need-returns-2
+returns-2 c = rw (lt-leb _ _ (c .if1 .left))
+
+pub lies-between-spec : {M : Type 1} → statement M
+lies-between-spec = tie.close (tie.spec returns returns-2)
