@@ -18,7 +18,7 @@ use lib.ListN.{length}
 use Rattle.rows.specs.Bits.{bit}
 use Rattle.words.specs.Words.{byteAt}
 use Rattle.frame.specs.Bcc.{xorAll}
-use Rattle.frame.specs.Frame.{frameOf, lastOf, isSound}
+use Rattle.frame.specs.Frame.{frameOf, isSound}
 use Rattle.frame.specs.declared.FrameFault.the-variants.{Count}
 use Rattle.frame.specs.declared.FrameCheck.{FrameCheck}
 use Rattle.frame.specs.declared.FrameCheck.the-variants.{Sound, Broken}

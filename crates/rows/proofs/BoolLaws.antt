@@ -36,12 +36,6 @@ module _ (a b c d : Bool) where
   pub second-fails : b ≡ false → (a && b && c && d) ≡ false
   second-fails e = rw (e, and-false a)
 
-  pub third-fails : c ≡ false → (a && b && c && d) ≡ false
-  third-fails e = rw (e, and-false (a && b))
-
-  pub last-decides : a ≡ true → b ≡ true → c ≡ true → (a && b && c && d) ≡ d
-  last-decides e f g = rw (e, f, g)
-
 -- a test as an answer
 pub cond-same : (b : Bool) → cond b true false ≡ b
 cond-same true = refl

@@ -1,5 +1,5 @@
 -- `request::leaves_zero` meets its contract: the words are looked at from the last one back. Assumes nothing.
-use Prim.Native.Nat.{ℕ, _≤_, _<_}
+use Prim.Native.Nat.{ℕ, _≤_}
 use mathlib.Core.Path.{_≡_, sym}
 use mathlib.Core.Bool.{false, or-true, and-false, and-true}
 use native.Mathlib.Omega.{arith}
