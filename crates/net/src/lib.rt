@@ -147,6 +147,7 @@ pub fn write_normal(out: &mut [u8], adr: u8, area: Area, n: u8, process: Words, 
     let mixed = first ^ second;
     let sum = ((mixed / 256) ^ (mixed % 256)) as u8;
     let bytes = count + (pzd as usize) * 2;
+    // without a word nothing has been written
     if bytes == 0 {
         return 0;
     }
@@ -174,7 +175,8 @@ pub fn empty_area() -> Area
     }
 }
 
-// The parameter area of n words, at the place of the first net byte: 3 or 4 words that are all there, else all 0.
+// The parameter area of n words, at the place of the first net byte: 3 or 4 words that are all there, else all 0. The zeros are
+// written out: an area that is handed on whole is taken apart again (docs/PERFORMANCE.md).
 pub fn read_area(t: &[u8], n: u8) -> Area
     ensures { λ r. ⌜ r ≡ areaIn (now (t .entry)) n ⌝ }
 {

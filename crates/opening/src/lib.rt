@@ -50,15 +50,8 @@ fn hold_both(a: bool, b: bool) -> bool
     if a { b } else { false }
 }
 
-// Whether a number lies between two others, without sign.
-fn lies_between(low: u32, v: u32, high: u32) -> bool
-    ensures { λ r. ⌜ r ≡ (leb low v && leb v high) ⌝ }
-{
-    if low <= v { v <= high } else { false }
-}
-
-// Whether a record's limits are in order and a value is within them: a value between limits that fit shows these in order, and,
-// without sign, one that lies between shows that itself and the minimum fit.
+// Whether a record's limits are in order and a value is within them. A value between limits that fit shows these in order; without
+// sign, where the maximum fits, a value between the limits shows that it and the minimum fit.
 fn holds(e: Entry, v: u32) -> bool
     ensures { λ r. ⌜ r ≡ (limitsOk e && isWithin e v) ⌝ }
 {
@@ -69,7 +62,7 @@ fn holds(e: Entry, v: u32) -> bool
         return false;
     }
     if !e.signed {
-        return lies_between(e.minimum, v, e.maximum);
+        return hold_both(e.minimum <= v, v <= e.maximum);
     }
     if 65535 < e.minimum {
         return false;
@@ -112,7 +105,7 @@ struct Run {
     fine: bool,
 }
 
-// The record's number is left to the pass. No array and no spare bit is one test of the head.
+// The record's number is left to the pass. The head's lower fourteen bits are elements and spare bits: both 0 is one test.
 fn check_record(raw: Record, values: &[u32], place: usize) -> Run
     requires { ⌜ place ≤ 1000000 ⌝ }
     ensures { λ r. let e = entryOf (raw .head) (raw .minimum) (raw .maximum) in ⌜ (r .fine ≡ (leb (e .elements) 254 && eqb (e .spare) 0 && limitsOk e && leb (place + countOf e) (length (now (values .entry))) && runOk e (now (values .entry)) (countOf e) place)) × (r .fine ≡ true → r .next ≡ place + countOf e) ⌝ }
@@ -145,9 +138,9 @@ fn check_record(raw: Record, values: &[u32], place: usize) -> Run
 
 // ---- the table and its values
 
-// Whether the records of a table and their values are all in order. The number is the upper fifteen bits of a head, so that heads
-// are compared, the next one with the greatest of the number before it; and numbers rise, so that the last one alone tells whether
-// one is over 31999.
+// Whether the records of a table and their values are all in order. The number is the upper fifteen bits of a head, so heads are
+// compared: each must be over the greatest head with the number before it. Numbers rise, so the last record alone tells whether one
+// is over 31999.
 fn in_order(t: &[u8], values: &[u32]) -> bool
     requires { ⌜ (length (now t) % 12 ≡ 0) × (length (now t) ≤ 6144) ⌝ }
     ensures { λ r. ⌜ r ≡ (tableOk (now (t .entry)) && valuesOk (now (t .entry)) (now (values .entry))) ⌝ }
@@ -157,24 +150,24 @@ fn in_order(t: &[u8], values: &[u32]) -> bool
     }
     let mut place: usize = 0;
     let mut at: usize = 0;
-    let mut next = record_of(&t[0..12]);
+    let mut current = record_of(&t[0..12]);
     loop {
-        let run = check_record(next, values, place);
+        let run = check_record(current, values, place);
         if !run.fine {
             return false;
         }
-        let last = next.head / 131072 * 131072 + 131071;
+        let most = current.head / 131072 * 131072 + 131071;
         place = run.next;
         at += 12;
         if t.len() <= at {
             break;
         }
-        next = record_of(&t[at..at + 12]);
-        if next.head <= last {
+        current = record_of(&t[at..at + 12]);
+        if current.head <= most {
             return false;
         }
     }
-    if 32000 * 131072 <= next.head {
+    if 32000 * 131072 <= current.head {
         return false;
     }
     if 4096 < place {
@@ -211,7 +204,7 @@ fn table_ok(t: &[u8], n: usize) -> bool
 fn check_content(t: &[u8], values: &[u32]) -> Opening
     ensures { λ r. ⌜ r ≡ contentOf (now (t .entry)) (now (values .entry)) ⌝ }
 {
-    if 6144 < t.len() {
+    if 512 * 12 < t.len() {
         return Opening::Refused(OpeningFault::BadTable);
     }
     if t.len() % 12 != 0 {

@@ -85,10 +85,10 @@ places-single t k h c = one-each t (length t / 12) k (omega arith) c
 
 -- ---- the cases of a task
 
--- every task but 0 is one to run or to refuse
-pub not-idle : (id : ℕ) → (id ≡ 0 → ⊥) → idle (taskOf id .act) ≡ false
+-- every task but 0 is one to run or to refuse, so it is not idle
+pub task-busy : (id : ℕ) → (id ≡ 0 → ⊥) → idle (taskOf id .act) ≡ false
 unfolding taskOf tasks
-not-idle id some = go (decLt id 15)
+task-busy id some = go (decLt id 15)
   where
     go : Dec (id < 15) → idle (taskOf id .act) ≡ false
     go (yes h) =

@@ -222,7 +222,8 @@ fn first_place(t: &[u8], k: usize, count: usize) -> usize
     sum_places(t, k)
 }
 
-// The task in an area of n words, on a table and values that passed the opening check.
+// The task in an area of n words, on a table and values that passed the opening check. Task 0 does nothing, and no error is looked
+// for in it.
 fn perform(n: u8, table: &[u8], values: &mut [u32], area: Area) -> Area
     requires { ⌜ (length (now table) ≤ 6144) × (countsOf (entries (now table)) ≤ length (now values)) ⌝ }
     ensures { λ r. ⌜ Performs (performOf n (now (table .entry)) (now (values .entry)) area) r (now (values .exit)) ⌝ }

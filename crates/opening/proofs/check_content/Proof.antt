@@ -11,6 +11,9 @@ use Rattle.opening.proofs.check_content.Lts as lts
 use Rattle.opening.proofs.in_order.Reads as in-order-reads
 use Rattle.opening.proofs.table_ok.Reads as table-ok-reads
 
+mul-if1 : tie.Need-mul-if1
+mul-if1 c = search needs
+
 returns : tie.Need-returns
 returns c =
     let a = c .before .before .before .args in
@@ -49,4 +52,4 @@ returns-5 c =
 pub check-content-spec : {M : Type 1} → statement M
 check-content-spec =
     tie.close
-    (tie.spec returns returns-2 in-order-requires returns-3 table-ok-requires returns-4 returns-5)
+    (tie.spec mul-if1 returns returns-2 in-order-requires returns-3 table-ok-requires returns-4 returns-5)

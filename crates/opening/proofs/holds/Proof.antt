@@ -3,14 +3,14 @@ use mathlib.Core.Path.{sym, _∙_}
 use borrow.Author.Tests.{not-true}
 use Rattle.rows.proofs.BoolLaws.{first-fails, second-fails}
 use Rattle.entry.specs.Limits.{fitsIn, atMost, isWithin}
-use Rattle.entry.proofs.LimitsLaws.{limits-shown, between-shown, fits-double, fits-word, word-unfit}
+use Rattle.entry.proofs.FitLaws.{limits-shown, between-shown, fits-double, fits-word, word-unfit}
 use borrow.Author.Needs.{needs}
 use Rattle.opening.proofs.holds.Statement.{statement}
 use Rattle.opening.proofs.holds.Tie as tie
 use Rattle.opening.proofs.holds.Reads as reads
 use Rattle.opening.proofs.holds.Lts as lts
 use Rattle.entry.proofs.within.Reads as within-reads
-use Rattle.opening.proofs.lies_between.Reads as lies-between-reads
+use Rattle.opening.proofs.hold_both.Reads as hold-both-reads
 
 within-requires : tie.Need-within-requires
 within-requires c κs = search needs
@@ -27,14 +27,15 @@ returns-2 c =
     let e = w .before .args .e in
     sym (second-fails (fitsIn (e .double) (e .minimum)) _ (atMost (e .double) (e .signed) (e .minimum) (e .maximum)) (isWithin e (w .before .args .v)) (word-unfit _ _ (w .if1 .left) (c .if2 .taken)))
 
-lies-between-requires : tie.Need-lies-between-requires
-lies-between-requires c κs = search needs
+hold-both-requires : tie.Need-hold-both-requires
+hold-both-requires c κs = search needs
 
 returns-3 : tie.Need-returns-3
 returns-3 c =
-    let h = c .before .before .before in
+    let t = c .before .before .before in
+    let h = t .before .before in
     let w = h .before .before in
-    c .lies-between .ensures ∙ between-shown _ _ (w .if1 .left) (not-true _ (c .before .if3 .taken)) (h .if2 .left)
+    c .hold-both .ensures ∙ between-shown _ _ (w .if1 .left) (not-true _ (t .if3 .taken)) (h .if2 .left)
 
 returns-4 : tie.Need-returns-4
 returns-4 c = sym (first-fails _ _ _ _ (word-unfit _ _ (c .before .before .before .before .before .before .if1 .left) (c .if4 .taken)))
@@ -51,4 +52,4 @@ returns-5 c =
 
 pub holds-spec : {M : Type 1} → statement M
 holds-spec =
-    tie.close (tie.spec within-requires returns returns-2 lies-between-requires returns-3 returns-4 within-requires-2 returns-5)
+    tie.close (tie.spec within-requires returns returns-2 hold-both-requires returns-3 returns-4 within-requires-2 returns-5)

@@ -56,7 +56,7 @@ asked l = tableOk (table-of l) && valuesOk (table-of l) (values-of l)
 went : (c : tie.Else2 Inv-loop μ-loop) →
     let r = c .before .before in
     let l = r .before in
-    asked l ≡ passFrom (values-of l) (entriesAt (table-of l) (l .loop .at + 12)) (entry (l .loop .next) .number + 1) (r .check-record .result .next)
+    asked l ≡ passFrom (values-of l) (entriesAt (table-of l) (l .loop .at + 12)) (entry (l .loop .current) .number + 1) (r .check-record .result .next)
 went c =
     let r = c .before .before in
     let f = not-false _ (c .if2 .left) in
@@ -66,7 +66,7 @@ went c =
 ended : (c : tie.Then3 Inv-loop μ-loop) →
     let r = c .before .before .before .before in
     let l = r .before in
-    asked l ≡ passFrom (values-of l) [] (entry (l .loop .next) .number + 1) (r .check-record .result .next)
+    asked l ≡ passFrom (values-of l) [] (entry (l .loop .current) .number + 1) (r .check-record .result .next)
 ended c =
     let s = c .before .before in
     let l = s .before .before .before in
@@ -76,7 +76,7 @@ ended c =
 on : (c : tie.After-record-of2 Inv-loop μ-loop) →
     let r = c .before .before .before .before .before .before in
     let l = r .before in
-    asked l ≡ passFrom (values-of l) (entry (c .record-of2 .result) ∷ entriesAt (table-of l) (l .loop .at + 12 + 12)) (entry (l .loop .next) .number + 1) (r .check-record .result .next)
+    asked l ≡ passFrom (values-of l) (entry (c .record-of2 .result) ∷ entriesAt (table-of l) (l .loop .at + 12 + 12)) (entry (l .loop .current) .number + 1) (r .check-record .result .next)
 on c =
     let s = c .before .before .before .before in
     let l = s .before .before .before in
@@ -119,11 +119,11 @@ returns-2 c =
     let broken = not-true (r .check-record .result .fine) (c .if2 .taken) in
     sym (r .before .loop .inv .3 ∙ rw (← (r .check-record .ensures .0), broken))
 
-mul-last : tie.Need-mul-last Inv-loop μ-loop
-mul-last c = omega arith
+mul-most : tie.Need-mul-most Inv-loop μ-loop
+mul-most c = omega arith
 
-add-last : tie.Need-add-last Inv-loop μ-loop
-add-last c = omega arith
+add-most : tie.Need-add-most Inv-loop μ-loop
+add-most c = omega arith
 
 add-at : tie.Need-add-at Inv-loop μ-loop
 add-at c = omega arith
@@ -148,8 +148,8 @@ returns-3 c =
     let d = c .before .before in
     let l = d .before .before .before .before .before .before .before in
     let e = entry (d .record-of2 .result) in
-    let last = entry (l .loop .next) .number in
-    let low : e .number < last + 1 = omega (arith, number-is (d .record-of2 .result), number-is (l .loop .next), c .if4 .taken) in
+    let last = entry (l .loop .current) .number in
+    let low : e .number < last + 1 = omega (arith, number-is (d .record-of2 .result), number-is (l .loop .current), c .if4 .taken) in
     sym (on d ∙ pass-low e _ (last + 1) _ (values-of l) low)
 
 loop-less : tie.Need-loop-less Inv-loop μ-loop
@@ -160,7 +160,7 @@ loop-again c =
     let d = c .before .before in
     let r = d .before .before .before .before .before .before in
     let l = r .before in
-    let n = l .loop .next in
+    let n = l .loop .current in
     let e = entry (d .record-of2 .result) in
     let up : entry n .number + 1 ≤ e .number = omega (arith, number-is (d .record-of2 .result), number-is n, c .if4 .left) in
     let f = not-false (r .check-record .result .fine) (d .before .before .before .before .if2 .left) in (
@@ -177,20 +177,20 @@ returns-4 : tie.Need-returns-4 Inv-loop μ-loop
 returns-4 c =
     let d = c .before .before in
     let l = d .before .before .before .before .before in
-    let high : 32000 < entry (l .loop .next) .number + 1 = omega (arith, number-is (l .loop .next), c .if5 .taken) in
+    let high : 32000 < entry (l .loop .current) .number + 1 = omega (arith, number-is (l .loop .current), c .if5 .taken) in
     sym (ended d ∙ pass-high _ _ (values-of l) high)
 
 returns-5 : tie.Need-returns-5 Inv-loop μ-loop
 returns-5 c =
     let d = c .before .before .before in
     let l = d .before .before .before .before .before in
-    sym (ended d ∙ pass-over (entry (l .loop .next) .number + 1) _ (values-of l) (c .if6 .taken))
+    sym (ended d ∙ pass-over (entry (l .loop .current) .number + 1) _ (values-of l) (c .if6 .taken))
 
 returns-6 : tie.Need-returns-6 Inv-loop μ-loop
 returns-6 c =
     let d = c .before .before .before in
     let l = d .before .before .before .before .before in
-    let few : entry (l .loop .next) .number + 1 ≤ 32000 = omega (arith, number-is (l .loop .next), c .before .if5 .left) in
+    let few : entry (l .loop .current) .number + 1 ≤ 32000 = omega (arith, number-is (l .loop .current), c .before .if5 .left) in
     sym (ended d ∙ pass-end _ _ (values-of l) few (c .if6 .left))
 
 pub in-order-spec : {M : Type 1} → statement M
@@ -207,8 +207,8 @@ in-order-spec =
     loop-holds
     check-record-requires
     returns-2
-    mul-last
-    add-last
+    mul-most
+    add-most
     add-at
     add-record-of
     sub-record-of-2

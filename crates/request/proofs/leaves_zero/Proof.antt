@@ -14,29 +14,29 @@ use Rattle.request.proofs.leaves_zero.Lts as lts
 
 -- a word past the first pzd that is not 0
 module _ (pzd : ℕ) (w : Words) where
-  fourth : pzd ≤ 3 → (w .w4 ≡ 0 → ⊥) → unusedZero pzd w ≡ false
+  fourth-set : pzd ≤ 3 → (w .w4 ≡ 0 → ⊥) → unusedZero pzd w ≡ false
   unfolding unusedZero
-  fourth p h = simp (le-ltb 3 pzd p, ne-eqb (w .w4) 0 h, and-false)
+  fourth-set p h = simp (le-ltb 3 pzd p, ne-eqb (w .w4) 0 h, and-false)
 
-  third : pzd ≤ 2 → (w .w3 ≡ 0 → ⊥) → unusedZero pzd w ≡ false
+  third-set : pzd ≤ 2 → (w .w3 ≡ 0 → ⊥) → unusedZero pzd w ≡ false
   unfolding unusedZero
-  third p h = simp (le-ltb 2 pzd p, ne-eqb (w .w3) 0 h, and-false)
+  third-set p h = simp (le-ltb 2 pzd p, ne-eqb (w .w3) 0 h, and-false)
 
-  second : pzd ≤ 1 → (w .w2 ≡ 0 → ⊥) → unusedZero pzd w ≡ false
+  second-set : pzd ≤ 1 → (w .w2 ≡ 0 → ⊥) → unusedZero pzd w ≡ false
   unfolding unusedZero
-  second p h = simp (le-ltb 1 pzd p, ne-eqb (w .w2) 0 h, and-false)
+  second-set p h = simp (le-ltb 1 pzd p, ne-eqb (w .w2) 0 h, and-false)
 
   -- the others are 0
-  first : pzd ≤ 0 → w .w2 ≡ 0 → w .w3 ≡ 0 → w .w4 ≡ 0 → unusedZero pzd w ≡ eqb (w .w1) 0
+  first-decides : pzd ≤ 0 → w .w2 ≡ 0 → w .w3 ≡ 0 → w .w4 ≡ 0 → unusedZero pzd w ≡ eqb (w .w1) 0
   unfolding unusedZero
-  first p h2 h3 h4 = simp (le-ltb 0 pzd p, eq-eqb (w .w2) 0 h2, eq-eqb (w .w3) 0 h3, eq-eqb (w .w4) 0 h4, or-true, and-true)
+  first-decides p h2 h3 h4 = simp (le-ltb 0 pzd p, eq-eqb (w .w2) 0 h2, eq-eqb (w .w3) 0 h3, eq-eqb (w .w4) 0 h4, or-true, and-true)
 
 returns : tie.Need-returns
 unfolding unusedZero
 returns c = let p = c .before .args .pzd in rw (lt-ltb 0 p (omega arith), lt-ltb 1 p (omega arith), lt-ltb 2 p (omega arith), lt-ltb 3 p (c .if1 .taken))
 
 returns-2 : tie.Need-returns-2
-returns-2 c = sym (fourth _ _ (c .before .before .if1 .left) (c .if2 .taken))
+returns-2 c = sym (fourth-set _ _ (c .before .before .if1 .left) (c .if2 .taken))
 
 returns-3 : tie.Need-returns-3
 unfolding unusedZero
@@ -45,7 +45,7 @@ returns-3 c =
     simp (lt-ltb 0 p (omega arith), lt-ltb 1 p (omega arith), lt-ltb 2 p (c .if3 .taken), eq-eqb _ 0 (c .before .if2 .left), or-true)
 
 returns-4 : tie.Need-returns-4
-returns-4 c = sym (third _ _ (c .before .before .if3 .left) (c .if4 .taken))
+returns-4 c = sym (third-set _ _ (c .before .before .if3 .left) (c .if4 .taken))
 
 returns-5 : tie.Need-returns-5
 unfolding unusedZero
@@ -55,7 +55,7 @@ returns-5 c =
     simp (lt-ltb 0 p (omega arith), lt-ltb 1 p (c .if5 .taken), eq-eqb _ 0 (c .before .if4 .left), eq-eqb _ 0 (d .if2 .left), or-true)
 
 returns-6 : tie.Need-returns-6
-returns-6 c = sym (second _ _ (c .before .before .if5 .left) (c .if6 .taken))
+returns-6 c = sym (second-set _ _ (c .before .before .if5 .left) (c .if6 .taken))
 
 returns-7 : tie.Need-returns-7
 unfolding unusedZero
@@ -70,7 +70,7 @@ returns-8 c =
     let f = c .before .before in
     let e = f .before .before .before in
     let d = e .before .before .before in
-    sym (first _ _ (c .before .if7 .left) (f .if6 .left) (e .if4 .left) (d .if2 .left))
+    sym (first-decides _ _ (c .before .if7 .left) (f .if6 .left) (e .if4 .left) (d .if2 .left))
 
 pub leaves-zero-spec : {M : Type 1} → statement M
 leaves-zero-spec = tie.close (tie.spec returns returns-2 returns-3 returns-4 returns-5 returns-6 returns-7 returns-8)

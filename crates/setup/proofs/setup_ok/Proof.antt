@@ -1,23 +1,15 @@
 -- `setup::setup_ok` meets its contract. Assumes nothing.
-use Prim.Native.Nat.{ℕ}
-use mathlib.Core.Path.{_≡_, refl}
-use mathlib.Core.Bool.{Bool, true, false, not, or-true, or-false}
+use mathlib.Core.Bool.{or-true, or-false}
 use mathlib.Core.Logic.{⊎-elim}
-use borrow.Author.Tests.{not-true, not-false, ltb-true, ltb-false, le-leb, lt-leb, le-ltb, eq-eqb, ne-eqb}
-use lib.Dec.{eqb, leb, ltb}
+use borrow.Author.Tests.{not-true, not-false, le-ltb, eq-eqb, ne-eqb}
+use lib.Dec.{eqb, ltb}
+use Rattle.rows.proofs.BoolLaws.{leb-not-ltb}
 use Rattle.rows.proofs.RowsLaws.{tests}
 use Rattle.setup.specs.SetupRules.{setupOk}
 use Rattle.setup.proofs.setup_ok.Statement.{statement}
 use Rattle.setup.proofs.setup_ok.Tie as tie
 use Rattle.setup.proofs.setup_ok.Reads as reads
 use Rattle.setup.proofs.setup_ok.Lts as lts
-
-at-most : (a b : ℕ) → leb a b ≡ not (ltb b a)
-at-most a b = go (ltb b a) refl
-  where
-    go : (x : Bool) → ltb b a ≡ x → leb a b ≡ not x
-    go true e = lt-leb a b (ltb-true b a e)
-    go false e = le-leb a b (ltb-false b a e)
 
 returns : tie.Need-returns
 unfolding setupOk
@@ -38,7 +30,7 @@ returns-4 c =
     let s = a .before .args .setup in
     let node = le-ltb 31 (s .node) (c .before .before .before .if1 .left) in
     let few = or-false (ltb 4 (s .pzd)) in
-    rw (at-most (s .pzd) 4, node)
+    rw (leb-not-ltb (s .pzd) 4, node)
     (⊎-elim (λ w. rw (eq-eqb (s .pkw) 0 (w .0 .taken), ne-eqb (s .pzd) 0 (w .2 .left), few))
     (λ v. rw (ne-eqb (s .pkw) 0 (v .0 .left))
     (⊎-elim (λ w. rw (not-false (eqb (s .pkw) 4) (w .2 .left), or-true (eqb (s .pkw) 3), few)) (λ w. rw (eq-eqb (s .pkw) 3 (w .left), few)) (v .2 .came)))

@@ -9,7 +9,7 @@ use Rattle.task.specs.Task.{tasks, taskOf}
 use Rattle.task.specs.Page.{fullNumber}
 use Rattle.task.proofs.TaskLaws.{reply-small}
 use Rattle.slave.specs.Perform.{idle, performOf}
-use Rattle.slave.proofs.PerformLaws.{found-whole, found-fits, not-idle, task-unnamed, task-found}
+use Rattle.slave.proofs.PerformLaws.{found-whole, found-fits, task-busy, task-unnamed, task-found}
 use borrow.Author.Needs.{needs}
 use Rattle.slave.proofs.perform.Statement.{statement}
 use Rattle.slave.proofs.perform.Tie as tie
@@ -25,7 +25,7 @@ use Rattle.task.proofs.full_number.Reads as full-number-reads
 use Rattle.task.proofs.task_of.Reads as task-of-reads
 
 busy : (c : tie.Else1) → idle (taskOf (c .before .before .before .before .args .area .pke / 4096) .act) ≡ false
-busy c = not-idle _ (c .if1 .left)
+busy c = task-busy _ (c .if1 .left)
 
 find-gives : (c : tie.After-find) → (let a = c .before .before .before .before .before .before .before .before .args in findIn (a .table .now) (fullNumber (a .area .pke) (a .area .ind)) ≡ c .find .result)
 find-gives c = sym (c .find .ensures ∙ rw (c .before .full-number .ensures))
