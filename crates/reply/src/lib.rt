@@ -3,8 +3,6 @@ ghost use mathlib.Core.Path.{_≡_};
 ghost use mathlib.Core.Bool.{true, _||_};
 ghost use Prim.Native.Nat.{_+_, _≤_};
 ghost use lib.Dec.{eqb};
-ghost use lib.ListN.{length};
-ghost use Rattle.setup.specs.SetupRules.{setupOk};
 ghost use Rattle.reply.specs.Reply.{inRow, knownId, misfit, notEmpty, otherEcho, badReply, replyContent, unreadOf, readNormal, readTask, readOf, zeroWords};
 use frame::Decoded;
 use frame::Fault;
@@ -202,7 +200,6 @@ fn read_normal(
     node: u8,
     n: usize,
 ) -> Reading
-    requires { ⌜ (setupOk setup ≡ true) × (length (now received) ≡ n + 4) ⌝ }
     ensures { λ r. ⌜ r ≡ readNormal node n setup id number index (now (received .entry)) ⌝ }
 {
     if node != setup.node {
@@ -230,7 +227,6 @@ fn read_normal(
 
 // Received bytes as the reply to a task.
 fn read_task(setup: Setup, id: u8, number: u16, index: u8, received: &[u8]) -> Reading
-    requires { ⌜ setupOk setup ≡ true ⌝ }
     ensures { λ r. ⌜ r ≡ readTask setup id number index (now (received .entry)) ⌝ }
 {
     match frame::decode(received) {

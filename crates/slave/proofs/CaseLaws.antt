@@ -2,7 +2,7 @@
 use mathlib.Core.Path.{_≡_, refl, ap, _∙_}
 use mathlib.Core.Bool.{Bool, true, false}
 use mathlib.Core.List.{List}
-use Prim.Native.Nat.{ℕ, _+_, _*_, _/_, _%_, _≤_}
+use Prim.Native.Nat.{ℕ, _/_, _%_, _≤_}
 use native.Mathlib.Omega.{arith}
 use lib.Dec.{eqb}
 use lib.ListN.{length}
@@ -13,11 +13,11 @@ use Rattle.setup.specs.declared.Setup.{Setup}
 use Rattle.setup.specs.SetupRules.{netBytes}
 use Rattle.setup.proofs.SetupLaws.{Configured, area-few}
 use Rattle.net.specs.declared.Area.{Area}
-use Rattle.net.specs.Read.{areaIn, processAt, processIn}
+use Rattle.net.specs.Read.{areaAt, processAt}
 use Rattle.net.specs.Net.{normalOf, normalLength}
 use Rattle.net.specs.Telegram.{written}
 use Rattle.net.proofs.NetLaws.{normal-sent}
-use Rattle.net.proofs.AreaLaws.{area-three, area-four, process-in, process-first}
+use Rattle.net.proofs.AreaLaws.{area-three, area-four, process-first}
 use Rattle.frame.specs.declared.Decoded.{Decoded}
 use Rattle.frame.specs.Address.{decodedOf}
 use Rattle.opening.specs.declared.Opening.{Opening}
@@ -28,31 +28,27 @@ use Rattle.slave.specs.declared.Answer.the-variants.{Taken}
 use Rattle.slave.specs.declared.Refusal.the-variants.{OtherNode, OtherLength, VoidBroadcast}
 use Rattle.slave.specs.Slave.{firstWord, commandAt, refusedServed, refusedOf, replyOf, normalOutcome, normalCase, broadcastCase, executeDecoded, executeOf, callOpened, callOf, voidIn}
 
--- ---- what is read of a telegram that has the set-up's words
+-- ---- what is read of a telegram
 
-module _ (s : Setup) (control : Words) (rx : List ℕ) (there : s .pkw * 2 + 3 + s .pzd * 2 ≤ length rx) {w : Words} (e : w ≡ processIn rx (s .pkw) (s .pzd) control) where
-  pub process-taken : w ≡ processAt rx (s .pkw) (s .pzd) control
-  process-taken = e ∙ process-in rx (s .pkw) (s .pzd) control there
-
-  pub first-taken : (s .pzd ≡ 0 → ⊥) → w .w1 ≡ firstWord s rx
-  first-taken h = ap (λ (x : Words). x .w1) process-taken ∙ process-first rx (s .pkw) (s .pzd) control h
+pub first-taken : (s : Setup) (control : Words) (rx : List ℕ) {w : Words} → w ≡ processAt rx (s .pkw) (s .pzd) control → (s .pzd ≡ 0 → ⊥) → w .w1 ≡ firstWord s rx
+first-taken s control rx e h = ap (λ (x : Words). x .w1) e ∙ process-first rx (s .pkw) (s .pzd) control h
 
 -- ---- broadcast
 
 -- its command by the parameter area, of 3 words and of 4
-module _ (rx : List ℕ) (n : ℕ) (bytes : Bytes rx) {a : Area} (e : a ≡ areaIn rx n) where
-  pub command-three : n ≡ 3 → 9 ≤ length rx → record { selector = a .pke; mask1 = a .ind; mask2 = a .value % 65536; fourth = 0 } ≡ commandAt rx n
+module _ (rx : List ℕ) (n : ℕ) (bytes : Bytes rx) {a : Area} (e : a ≡ areaAt rx n) where
+  pub command-three : n ≡ 3 → record { selector = a .pke; mask1 = a .ind; mask2 = a .value % 65536; fourth = 0 } ≡ commandAt rx n
   unfolding commandAt
-  command-three three long =
+  command-three three =
       let low : wordAt rx 7 % 65536 ≡ wordAt rx 7 = omega (arith, bytes 7, bytes 8) in
-      rw (e, three, area-three rx long, low)
+      rw (e, three, area-three rx, low)
 
-  pub command-four : n ≡ 4 → 11 ≤ length rx → record { selector = a .pke; mask1 = a .ind; mask2 = a .value / 65536; fourth = a .value % 65536 } ≡ commandAt rx n
+  pub command-four : n ≡ 4 → record { selector = a .pke; mask1 = a .ind; mask2 = a .value / 65536; fourth = a .value % 65536 } ≡ commandAt rx n
   unfolding commandAt
-  command-four four long =
+  command-four four =
       let high : doubleAt rx 7 / 65536 ≡ wordAt rx 7 = omega (arith, bytes 9, bytes 10) in
       let low : doubleAt rx 7 % 65536 ≡ wordAt rx 9 = omega (arith, bytes 9, bytes 10) in
-      rw (e, four, area-four rx bytes long, high, low)
+      rw (e, four, area-four rx bytes, high, low)
 
 -- without an area or without process words it is void, whatever is read
 pub void-same : (c d : Command) (pkw pzd f g : ℕ) → ((pkw ≡ 0 → ⊥) → c ≡ d) → ((pzd ≡ 0 → ⊥) → f ≡ g) → isVoid c pkw pzd f ≡ isVoid d pkw pzd g

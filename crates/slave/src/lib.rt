@@ -248,7 +248,7 @@ fn perform(n: u8, table: &[u8], values: &mut [u32], area: Area) -> Area
 
 // The parameter task of a telegram, if PKW is not 0.
 fn run_task(n: u8, table: &[u8], values: &mut [u32], received: &[u8]) -> Area
-    requires { ⌜ (length (now table) ≤ 6144) × (countsOf (entries (now table)) ≤ length (now values)) × ((n ≡ 0 → ⊥) → (3 ≤ n) × (n ≤ 4) × (n * 2 + 3 ≤ length (now received))) ⌝ }
+    requires { ⌜ (length (now table) ≤ 6144) × (countsOf (entries (now table)) ≤ length (now values)) ⌝ }
     ensures { λ r. ⌜ Performs (taskDone n (now (table .entry)) (now (values .entry)) (now (received .entry))) r (now (values .exit)) ⌝ }
 {
     if n == 0 {
@@ -262,7 +262,6 @@ fn run_task(n: u8, table: &[u8], values: &mut [u32], received: &[u8]) -> Area
 
 // The control words after a normal telegram.
 fn take_control(setup: Setup, control: Words, received: &[u8]) -> Words
-    requires { ⌜ setup .pkw * 2 + 3 + setup .pzd * 2 ≤ length (now received) ⌝ }
     ensures { λ r. ⌜ r ≡ controlTaken setup control (now (received .entry)) ⌝ }
 {
     let process = net::read_process(received, setup.pkw, setup.pzd, control);
@@ -276,7 +275,7 @@ fn take_control(setup: Setup, control: Words, received: &[u8]) -> Words
 
 // The parameter area of a broadcast, if PKW is not 0.
 fn read_command(received: &[u8], n: u8) -> Command
-    requires { ⌜ ((n ≡ 0 → ⊥) → (3 ≤ n) × (n ≤ 4) × (n * 2 + 3 ≤ length (now received))) ⌝ }
+    requires { ⌜ ((n ≡ 0 → ⊥) → (3 ≤ n) × (n ≤ 4)) ⌝ }
     ensures { λ r. ⌜ ((n ≡ 0 → ⊥) → r ≡ commandAt (now (received .entry)) n) ⌝ }
 {
     let area = net::read_area(received, n);
@@ -318,7 +317,7 @@ fn serve_normal(
     node: u8,
     n: usize,
 ) -> Served
-    requires { ⌜ (openingOf setup (now table) (now values) (length (now reply)) ≡ Passed) × (length (now received) ≡ n + 4) ⌝ }
+    requires { ⌜ openingOf setup (now table) (now values) (length (now reply)) ≡ Passed ⌝ }
     ensures { λ r. ⌜ Leaves (normalCase node n setup (now (table .entry)) (now (values .entry)) control status (now (received .entry)) (now (reply .entry))) r (now (values .exit)) (now (reply .exit)) ⌝ }
 {
     if node != setup.node {
@@ -355,7 +354,7 @@ fn serve_mirror(setup: Setup, control: Words, received: &[u8], reply: &mut [u8],
 
 // A broadcast with n net bytes: 17, 18, or the control words with the masked bits taken. No reply.
 fn serve_broadcast(setup: Setup, control: Words, received: &[u8], n: usize) -> Served
-    requires { ⌜ (setupOk setup ≡ true) × (length (now received) ≡ n + 4) ⌝ }
+    requires { ⌜ setupOk setup ≡ true ⌝ }
     ensures { λ r. ⌜ r ≡ broadcastCase n setup control (now (received .entry)) ⌝ }
 {
     if n != setup::net_bytes(setup) {

@@ -29,7 +29,7 @@ can-ask-requires : tie.Need-can-ask-requires
 can-ask-requires c κs = search needs
 
 read-task-requires : tie.Need-read-task-requires
-read-task-requires c κs = let e = c .before .before .before .before .before in sym (e .before .setup-ok .ensures) ∙ not-false _ (e .if1 .left)
+read-task-requires c κs = search needs
 
 returns-2 : tie.Need-returns-2
 unfolding readOf

@@ -2,11 +2,8 @@
 use mathlib.Core.Path.{_≡_, sym, _∙_}
 use Rattle.rows.proofs.RowsLaws.{tests}
 use borrow.Author.Tests.{eq-eqb, ne-eqb}
-use native.Mathlib.Omega.{arith}
-use Rattle.setup.proofs.SetupLaws.{ok-configured, area-words}
 use Rattle.setup.specs.SetupRules.{netBytes}
 use Rattle.net.specs.Read.{areaAt, processAt}
-use Rattle.net.proofs.AreaLaws.{area-in, process-in}
 use Rattle.reply.specs.Reply.{zeroWords, badReply, readNormal}
 use borrow.Author.Needs.{needs}
 use Rattle.reply.proofs.read_normal.Statement.{statement}
@@ -21,25 +18,16 @@ use Rattle.reply.proofs.refuse.Reads as refuse-reads
 use Rattle.reply.proofs.zero_words.Reads as zero-words-reads
 use Rattle.setup.proofs.net_bytes.Reads as net-bytes-reads
 
--- the words of the set-up are there
+-- the length is that of the set-up
 long : (c : tie.Else2) → (let a = c .before .before .before .before .before .args in a .n ≡ netBytes (a .setup))
 long c = c .if2 .left ∙ c .before .net-bytes .ensures
 
 process-is : (c : tie.After-read-process) → (let a = c .before .before .before .before .before .before .before .args in c .read-process .result ≡ processAt (a .received .now) (a .setup .pkw) (a .setup .pzd) zeroWords)
 process-is c =
-    let z = c .before in
-    let a = z .before .before .before .before .before .before in
-    c .read-process .ensures ∙ rw (z .zero-words .ensures) (process-in (a .args .received .now) (a .args .setup .pkw) (a .args .setup .pzd) zeroWords (omega (arith, a .pre .1, long (z .before))))
-
-area-is : (c : tie.After-read-area) → (let a = c .before .before .before .before .before .before .before .before .before .before .args in c .read-area .result ≡ areaAt (a .received .now) (a .setup .pkw))
-area-is c =
-    let e = c .before in
-    let a = e .before .before .before .before .before .before .before .before .before in
-    let w = area-words (a .args .setup) (ok-configured (a .args .setup) (a .pre .0)) (e .if3 .left) in
-    c .read-area .ensures ∙ area-in (a .args .received .now) (a .args .setup .pkw) (w .0) (w .1) (omega (arith, a .pre .1, long (e .before .before .before .before)))
+    c .read-process .ensures ∙ rw (c .before .zero-words .ensures)
 
 bad : (c : tie.After-is-bad) → (let a = c .before .before .before .before .before .before .before .before .before .before .before .args in badReply (a .setup .pkw) (a .id) (a .number) (a .index) (areaAt (a .received .now) (a .setup .pkw)) ≡ c .is-bad .result)
-bad c = sym (c .is-bad .ensures ∙ rw (area-is (c .before)))
+bad c = sym (c .is-bad .ensures ∙ rw (c .before .read-area .ensures))
 
 refuse-requires : tie.Need-refuse-requires
 refuse-requires c κs = search needs
@@ -98,7 +86,7 @@ returns-5 c =
     let b = c .before .before in
     let e = b .before .before in
     let r = e .before .before in
-    sym (rw (eq-eqb _ _ (r .before .before .before .before .if1 .left), eq-eqb _ _ (long (r .before .before)), ne-eqb _ _ (e .if3 .left), bad b ∙ c .before .if4 .left, c .read-content .ensures, area-is (b .before), process-is r))
+    sym (rw (eq-eqb _ _ (r .before .before .before .before .if1 .left), eq-eqb _ _ (long (r .before .before)), ne-eqb _ _ (e .if3 .left), bad b ∙ c .before .if4 .left, c .read-content .ensures, b .before .read-area .ensures, process-is r))
 
 pub read-normal-spec : {M : Type 1} → statement M
 read-normal-spec =

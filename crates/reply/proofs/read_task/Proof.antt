@@ -45,12 +45,7 @@ sub-n c =
     omega (arith, b .0, b .1, telegram-framed (a .received .now) _ e refl .counted .long)
 
 read-normal-requires : tie.Need-read-normal-requires
-read-normal-requires c κs =
-    let d = c .before .before .before in
-    let a = d .before .before in
-    let e = sym (d .decode .ensures) ∙ c .before .node .given .1 in
-    let b = normal-bounds (a .args .received .now) _ _ _ e in
-    (a .pre, omega (arith, b .0, b .1, telegram-framed (a .args .received .now) _ e refl .counted .long))
+read-normal-requires c κs = search needs
 
 returns : tie.Need-returns
 unfolding readTask

@@ -49,11 +49,8 @@ sub-serve-broadcast c =
 
 serve-broadcast-requires : tie.Need-serve-broadcast-requires
 serve-broadcast-requires c κs =
-    let d = c .before .before in
-    let a = d .before .before .before .before .before in
-    let e = sym (d .decode .ensures) ∙ c .enum-told .given .1 in
-    let o = passed-opened (a .args .setup) (a .args .table .now) (a .args .values .now) (length (a .args .reply .now)) (a .pre) in
-    (o .setup-good, omega (arith, telegram-framed (a .args .received .now) _ e refl .counted .long))
+    let a = c .before .before .before .before .before .before .before in
+    passed-opened (a .args .setup) (a .args .table .now) (a .args .values .now) (length (a .args .reply .now)) (a .pre) .setup-good
 
 enum-known-node-2 : tie.Need-enum-known-node-2
 enum-known-node-2 c = search needs
@@ -67,12 +64,7 @@ sub-n c =
     omega (arith, b .0, b .1, telegram-framed (a .received .now) _ e refl .counted .long)
 
 serve-normal-requires : tie.Need-serve-normal-requires
-serve-normal-requires c κs =
-    let d = c .before .before .before .before .before in
-    let a = d .before .before .before .before .before in
-    let e = sym (d .decode .ensures) ∙ c .before .before .before .node2 .given .1 in
-    let b = normal-bounds (a .args .received .now) _ _ _ e in
-    (a .pre, omega (arith, b .0, b .1, telegram-framed (a .args .received .now) _ e refl .counted .long))
+serve-normal-requires c κs = search needs
 
 returns : tie.Need-returns
 returns c =

@@ -22,7 +22,7 @@ returns : tie.Need-returns
 returns c h =
     let r = c .before .before .before in
     let a = r .before .before in
-    command-four (a .args .received .now) (a .args .n) (λ i. r .before .shared-slice-known .given i .fits) (r .read-area .ensures) (c .before .before .if1 .taken) (omega (arith, a .pre h .2, c .before .before .if1 .taken))
+    command-four (a .args .received .now) (a .args .n) (λ i. r .before .shared-slice-known .given i .fits) (r .read-area .ensures) (c .before .before .if1 .taken)
 
 cast-t10 : tie.Need-cast-t10
 cast-t10 c = search needs
@@ -32,7 +32,7 @@ returns-2 c h =
     let r = c .before .before in
     let a = r .before .before in
     let three : a .args .n ≡ 3 = omega (arith, a .pre h .0, a .pre h .1, c .before .if1 .left) in
-    command-three (a .args .received .now) (a .args .n) (λ i. r .before .shared-slice-known .given i .fits) (r .read-area .ensures) three (omega (arith, a .pre h .2))
+    command-three (a .args .received .now) (a .args .n) (λ i. r .before .shared-slice-known .given i .fits) (r .read-area .ensures) three
 
 pub read-command-spec : {M : Type 1} → statement M
 read-command-spec =

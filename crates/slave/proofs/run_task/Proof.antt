@@ -1,7 +1,6 @@
 -- `slave::run_task` meets its contract. Assumes nothing.
-use mathlib.Core.Path.{refl, _∙_}
+use mathlib.Core.Path.{refl}
 use borrow.Author.Tests.{ne-eqb}
-use Rattle.net.proofs.AreaLaws.{area-in}
 use Rattle.slave.specs.Slave.{taskDone}
 use borrow.Author.Needs.{needs}
 use Rattle.slave.proofs.run_task.Statement.{statement}
@@ -33,10 +32,7 @@ unfolding taskDone
 returns-2 c =
     let p = c .before .before in
     let i = p .before .before .before in
-    let a = i .before .before .before .before in
-    let h = a .pre .2 (i .if1 .left) in
-    let e = p .before .before .read-area .ensures ∙ area-in (a .args .received .now) (a .args .n) (h .0) (h .1) (h .2) in
-    rw (ne-eqb _ _ (i .if1 .left), ← e) (p .perform .ensures)
+    rw (ne-eqb _ _ (i .if1 .left), ← (p .before .before .read-area .ensures)) (p .perform .ensures)
 
 pub run-task-spec : {M : Type 1} → statement M
 run-task-spec =

@@ -1,16 +1,13 @@
 -- `slave::serve_broadcast` meets its contract. Assumes nothing.
-use Prim.Native.Nat.{_+_, _*_, _≤_}
 use mathlib.Core.Path.{_≡_, sym, _∙_}
 use mathlib.Core.Bool.{false}
-use native.Mathlib.Omega.{arith}
-use lib.ListN.{length}
 use borrow.Author.Tests.{ne-eqb}
 use Rattle.setup.specs.SetupRules.{netBytes}
 use Rattle.setup.proofs.SetupLaws.{ok-configured, area-words}
 use Rattle.broadcast.specs.Broadcast.{isVoid}
 use Rattle.slave.specs.Slave.{firstWord, commandAt, broadcastCase}
 use Rattle.broadcast.proofs.VoidLaws.{not-void-commands}
-use Rattle.slave.proofs.CaseLaws.{process-taken, first-taken, void-same, broadcast-void, broadcast-taken}
+use Rattle.slave.proofs.CaseLaws.{first-taken, void-same, broadcast-void, broadcast-taken}
 use borrow.Author.Needs.{needs}
 use Rattle.slave.proofs.serve_broadcast.Statement.{statement}
 use Rattle.slave.proofs.serve_broadcast.Tie as tie
@@ -37,14 +34,10 @@ returns c = c .refuse .ensures ∙ sym (rw (ne-eqb _ _ (λ e. c .before .if1 .ta
 long : (c : tie.Else1) → (let a = c .before .before .before .args in a .n ≡ netBytes (a .setup))
 long c = c .if1 .left ∙ c .before .net-bytes .ensures
 
-there : (c : tie.Else1) → (let a = c .before .before .before .args in a .setup .pkw * 2 + 3 + a .setup .pzd * 2 ≤ length (a .received .now))
-there c = omega (arith, c .before .before .before .pre .1, long c)
-
 read-command-requires : tie.Need-read-command-requires
 read-command-requires c κs h =
     let a = c .before .before .before in
-    let w = area-words (a .args .setup) (ok-configured (a .args .setup) (a .pre .0)) h in
-    (w .0, w .1, omega (arith, a .pre .1, long c))
+    area-words (a .args .setup) (ok-configured (a .args .setup) (a .pre)) h
 
 read-process-requires : tie.Need-read-process-requires
 read-process-requires c κs = search needs
@@ -58,7 +51,7 @@ void c =
     let e = p .before .before in
     let a = e .before .before .before .args in
     c .is-void .ensures
-    ∙ void-same _ _ (a .setup .pkw) (a .setup .pzd) _ _ (p .before .read-command .ensures) (first-taken (a .setup) (a .control) (a .received .now) (there e) (p .read-process .ensures))
+    ∙ void-same _ _ (a .setup .pkw) (a .setup .pzd) _ _ (p .before .read-command .ensures) (first-taken (a .setup) (a .control) (a .received .now) (p .read-process .ensures))
 
 refuse-requires-2 : tie.Need-refuse-requires-2
 refuse-requires-2 c κs = search needs
@@ -79,7 +72,7 @@ returns-3 c =
     let a = e .before .before .before .args in
     let no : isVoid (commandAt (a .received .now) (a .setup .pkw)) (a .setup .pkw) (a .setup .pzd) (firstWord (a .setup) (a .received .now)) ≡ false = sym (void v) ∙ c .before .if2 .left in
     sym (broadcast-taken _ (a .setup) (a .control) (a .received .now) (long e) no
-    ∙ sym (rw (c .command-control .ensures, p .before .read-command .ensures (not-void-commands _ _ _ _ no .areas), process-taken (a .setup) (a .control) (a .received .now) (there e) (p .read-process .ensures))))
+    ∙ sym (rw (c .command-control .ensures, p .before .read-command .ensures (not-void-commands _ _ _ _ no .areas), p .read-process .ensures)))
 
 pub serve-broadcast-spec : {M : Type 1} → statement M
 serve-broadcast-spec =

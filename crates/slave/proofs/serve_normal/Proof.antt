@@ -2,7 +2,7 @@
 use mathlib.Core.Path.{refl, sym, _∙_}
 use native.Mathlib.Omega.{arith}
 use lib.ListN.{length}
-use Rattle.setup.proofs.SetupLaws.{ok-configured, area-words}
+use Rattle.setup.proofs.SetupLaws.{ok-configured}
 use Rattle.opening.proofs.AnswersLaws.{passed-opened}
 use Rattle.slave.proofs.CaseLaws.{normal-other-node, normal-other-length, normal-replied, reply-sent}
 use borrow.Author.Needs.{needs}
@@ -40,15 +40,11 @@ returns-2 c =
 run-task-requires : tie.Need-run-task-requires
 run-task-requires c κs =
     let a = c .before .before .before .before .before .before .before .before .before in
-    let o = passed-opened (a .args .setup) (a .args .table .now) (a .args .values .now) (length (a .args .reply .now)) (a .pre .0) in
-    let w = area-words (a .args .setup) (ok-configured (a .args .setup) (o .setup-good)) in
-    (o .short, omega (arith, o .count), λ h. (w h .0, w h .1, omega (arith, a .pre .1, c .before .if2 .left, c .before .before .net-bytes .ensures)))
+    let o = passed-opened (a .args .setup) (a .args .table .now) (a .args .values .now) (length (a .args .reply .now)) (a .pre) in
+    (o .short, omega (arith, o .count))
 
 take-control-requires : tie.Need-take-control-requires
-take-control-requires c κs =
-    let e = c .before .before .before .before in
-    let a = e .before .before .before .before .before .before .before .before in
-    omega (arith, a .pre .1, e .if2 .left, e .before .net-bytes .ensures)
+take-control-requires c κs = search needs
 
 write-normal-requires : tie.Need-write-normal-requires
 write-normal-requires c κs = search needs
@@ -67,7 +63,7 @@ returns-3 c =
     let e = r .before .before in
     let s = e .before .before .before .before .before .before .before .before in
     let a = s .args in
-    let o = passed-opened (a .setup) (a .table .now) (a .values .now) (length (a .reply .now)) (s .pre .0) in
+    let o = passed-opened (a .setup) (a .table .now) (a .values .now) (length (a .reply .now)) (s .pre) in
     let m = reply-sent (a .setup) (r .run-task .result) (a .status) (a .reply .now) (ok-configured (a .setup) (o .setup-good)) (o .buffer) in
     rw (normal-replied (a .node) (a .n) (a .setup) (a .table .now) (a .values .now) (a .control) (a .status) (a .received .now) (a .reply .now) (e .before .before .if1 .left) (e .if2 .left ∙ e .before .net-bytes .ensures), ← (r .run-task .ensures .area-is))
     (record {

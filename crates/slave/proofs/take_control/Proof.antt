@@ -4,7 +4,7 @@ use Prim.Native.Nat.{ℕ, _/_, _%_}
 use borrow.Author.Tests.{ne-eqb}
 use Rattle.rows.proofs.RowsLaws.{tests}
 use Rattle.slave.specs.Slave.{firstWord, controlTaken}
-use Rattle.slave.proofs.CaseLaws.{process-taken, first-taken}
+use Rattle.slave.proofs.CaseLaws.{first-taken}
 use borrow.Author.Needs.{needs}
 use Rattle.slave.proofs.take_control.Statement.{statement}
 use Rattle.slave.proofs.take_control.Tie as tie
@@ -20,7 +20,7 @@ first-is : (c : tie.Then1) → c .before .before .read-process .result .w1 ≡ f
 first-is c =
     let r = c .before .before in
     let a = r .before .before .args in
-    first-taken (a .setup) (a .control) (a .received .now) (r .before .before .pre) (r .read-process .ensures) (c .if1 .taken)
+    first-taken (a .setup) (a .control) (a .received .now) (r .read-process .ensures) (c .if1 .taken)
 
 returns : tie.Need-returns
 unfolding controlTaken
@@ -28,7 +28,7 @@ returns c =
     let r = c .before .before .before .before in
     let a = r .before .before .args in
     let bit : firstWord (a .setup) (a .received .now) / 1024 % 2 ≡ 1 = ap (λ (x : ℕ). x / 1024 % 2) (sym (first-is (c .before .before))) ∙ c .if2 .taken in
-    process-taken (a .setup) (a .control) (a .received .now) (r .before .before .pre) (r .read-process .ensures) ∙ sym (rw (ne-eqb _ 0 (c .before .before .if1 .taken), bit))
+    r .read-process .ensures ∙ sym (rw (ne-eqb _ 0 (c .before .before .if1 .taken), bit))
 
 returns-2 : tie.Need-returns-2
 unfolding controlTaken
