@@ -17,7 +17,7 @@ use Rattle.rows.specs.Bits.{bit}
 use Rattle.rows.proofs.BoolLaws.{and-left, and-right}
 use Rattle.rows.proofs.RangeLaws.{between}
 use Rattle.words.specs.Words.{byteAt, Bytes}
-use Rattle.frame.specs.Bcc.{xorAll}
+use Rattle.bcc.specs.Bcc.{xorAll}
 use Rattle.frame.specs.Frame.{frameOf, isSound}
 use Rattle.claims_damage.specs.Damage.{damaged, Damage, flips, Unseen, Hit, OneByte, Order, Burst}
 

@@ -15,7 +15,7 @@ use Rattle.words.specs.Words.{byteAt}
 use Rattle.frame.specs.Frame.{frameOf, isSound}
 use Rattle.frame.specs.declared.FrameFault.the-variants.{Start, Length, Count, Check}
 use Rattle.frame.specs.declared.FrameCheck.the-variants.{Broken}
-use Rattle.frame.proofs.XorLaws.{xor-fix, length-zip, getD-zip}
+use Rattle.bcc.proofs.XorLaws.{xor-fix, length-zip, getD-zip}
 use Rattle.frame.proofs.FrameLaws.{Counted, sound-framed, framed-sound, check-wrong}
 use Rattle.claims_damage.specs.Damage.{damaged, Damage, Unseen, Hit}
 use Rattle.claims_damage.proofs.Seen.{kept, counted-kept, exact}

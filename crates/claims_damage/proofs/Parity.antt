@@ -10,8 +10,8 @@ use lib.Arith.{lt-one}
 use lib.Pow.{shr-shr, shr-lt}
 use lib.ListN.{getD}
 use Rattle.rows.specs.Bits.{bit}
-use Rattle.frame.specs.Bcc.{xorAll}
-use Rattle.frame.proofs.XorLaws.{xor-digit}
+use Rattle.bcc.specs.Bcc.{xorAll}
+use Rattle.bcc.proofs.XorLaws.{xor-digit}
 use Rattle.claims_damage.specs.Damage.{flips}
 
 -- a number whose digits are all 0

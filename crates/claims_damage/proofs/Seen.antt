@@ -17,13 +17,13 @@ use lib.Bits.{bitXor, xor-zero-r}
 use lib.ListN.{length}
 use Rattle.rows.specs.Bits.{bit}
 use Rattle.words.specs.Words.{byteAt}
-use Rattle.frame.specs.Bcc.{xorAll}
+use Rattle.bcc.specs.Bcc.{xorAll}
 use Rattle.frame.specs.Frame.{frameOf, isSound}
 use Rattle.frame.specs.declared.FrameFault.the-variants.{Count}
 use Rattle.frame.specs.declared.FrameCheck.{FrameCheck}
 use Rattle.frame.specs.declared.FrameCheck.the-variants.{Sound, Broken}
 use Rattle.frame.proofs.NumberLaws.{frame-between}
-use Rattle.frame.proofs.XorLaws.{xor-all-lt, xor-fix, length-zip, getD-zip, xor-zip}
+use Rattle.bcc.proofs.XorLaws.{xor-all-lt, xor-fix, length-zip, getD-zip, xor-zip}
 use Rattle.frame.proofs.FrameLaws.{Counted, sound-framed, framed-sound, zero-of-check, check-of-zero}
 use Rattle.claims_damage.specs.Damage.{damaged, Damage, flips, Passes, Refuses, Unseen, Hit, OneByte, bitAt, Order, Burst}
 use Rattle.claims_damage.proofs.Parity.{zero-digits, one-digit, digit-parity, single}

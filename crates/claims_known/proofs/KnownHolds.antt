@@ -1,7 +1,7 @@
 -- K1 to K12 hold of the definitions, all at once. Assumes nothing.
 use mathlib.Core.Path.{_≡_, refl}
 use mathlib.Core.List.{map}
-use Rattle.frame.specs.Bcc.{xorAll}
+use Rattle.bcc.specs.Bcc.{xorAll}
 use Rattle.frame.specs.Frame.{frameOf}
 use Rattle.frame.specs.Address.{addressOf}
 use Rattle.setup.specs.SetupRules.{setupOk}
@@ -11,9 +11,9 @@ use Rattle.table.specs.Records.{entryAt, entriesFrom, entries, findFrom, counts
 use Rattle.opening.specs.Rules.{risingFrom, eachOk, runOk, runsOk}
 use Rattle.opening.specs.Answers.{openingOf}
 use Rattle.net.specs.Net.{areaWords, netOf}
-use Rattle.net.specs.Read.{valueAt, areaAt, processAt}
+use Rattle.area.specs.Read.{valueAt, areaAt, processAt}
 use Rattle.task.specs.Task.{tasks, taskOf}
-use Rattle.task.specs.Page.{pageOf, nibbleOf}
+use Rattle.page.specs.Page.{pageOf, nibbleOf}
 use Rattle.task.specs.Verdict.{verdictOf, elementOf}
 use Rattle.broadcast.specs.Broadcast.{isVoid, mergeOf, controlAfter}
 use Rattle.slave.specs.Perform.{performOn, foundOf, performOf}

@@ -4,15 +4,17 @@
 use Prim.Native.Nat.{ℕ, _/_, _%_}
 use mathlib.Core.List.{List, [], _∷_}
 use lib.ListN.{replicate, take}
-use Rattle.frame.specs.Bcc.{xorAll}
-use Rattle.net.specs.declared.Area.{Area}
+use Rattle.bcc.specs.Bcc.{xorAll}
+use Rattle.area.specs.declared.Area.{Area}
 use Rattle.net.specs.Net.{wordsOf}
 use Rattle.net.specs.Telegram.{telegramOf}
 use Rattle.slave.specs.Perform.{performOf}
-use Rattle.slave.specs.Slave.{Outcome, sentBy, answerNumber, callOf}
+use Rattle.slave.specs.Slave.{Outcome, sentBy, callOf}
 use Rattle.request.specs.declared.Request.{Request}
-use Rattle.master.specs.Build.{builtNumber, taskArea, builtOf}
+use Rattle.master.specs.Build.{taskArea, builtOf}
 use Rattle.claims_known.specs.Telegrams.{setup, twoWords, status, request1082, table1082, task1082, value1082, error1082}
+use Rattle.answers.specs.SlaveNumbers.{answerNumber}
+use Rattle.answers.specs.BuildNumbers.{builtNumber}
 
 -- what the definitions give, and what the document says
 abbrev pub Case : Type 0

@@ -17,7 +17,7 @@ use Rattle.table.specs.Records.{entryAt, findIn, firstPlace}
 use Rattle.opening.specs.declared.Opening.the-variants.{Passed}
 use Rattle.opening.specs.Answers.{openingOf}
 use Rattle.opening.proofs.FoundLaws.{InTable, found-in-table}
-use Rattle.net.specs.declared.Area.{Area}
+use Rattle.area.specs.declared.Area.{Area}
 use Rattle.task.specs.declared.Act.{Act}
 use Rattle.task.specs.declared.Act.the-variants.{Nothing, Read, Change, Count, Refuse}
 use Rattle.task.specs.declared.Width.{Width}
@@ -26,7 +26,7 @@ use Rattle.task.specs.declared.Verdict.{Verdict}
 use Rattle.task.specs.declared.Verdict.the-variants.{Granted, Denied}
 use Rattle.task.specs.declared.Task.{Task}
 use Rattle.task.specs.Task.{taskOf}
-use Rattle.task.specs.Page.{fullNumber, named}
+use Rattle.page.specs.Page.{fullNumber, named}
 use Rattle.task.specs.Verdict.{countsAct, lacksRoom, verdictOf, elementOf}
 use Rattle.task.proofs.VerdictLaws.{granted-clear}
 use Rattle.request.specs.Request.{valueFits}

@@ -19,22 +19,24 @@ use Rattle.frame.specs.declared.Address.the-variants.{ToOne}
 use Rattle.frame.specs.declared.FrameCheck.{FrameCheck}
 use Rattle.frame.specs.declared.FrameCheck.the-variants.{Sound}
 use Rattle.frame.specs.declared.Decoded.{Decoded}
-use Rattle.net.specs.Read.{areaAt, processAt}
+use Rattle.area.specs.Read.{areaAt, processAt}
 use Rattle.request.specs.declared.Request.{Request}
 use Rattle.request.specs.declared.Request.the-variants.{Task, Mirror, Broadcast}
 use Rattle.request.specs.Request.{taskAskable, expressible}
-use Rattle.master.specs.declared.BuildFault.{BuildFault}
-use Rattle.master.specs.declared.BuildFault.the-variants.{BadSetup, NotExpressible, ShortBuffer}
-use Rattle.master.specs.declared.BuildAnswer.{BuildAnswer}
-use Rattle.master.specs.declared.BuildAnswer.the-variants.{Done, Refused}
-use Rattle.master.specs.Build.{builtNumber, telegramFor, admitted, builtOf}
+use Rattle.answers.specs.declared.BuildFault.{BuildFault}
+use Rattle.answers.specs.declared.BuildFault.the-variants.{BadSetup, NotExpressible, ShortBuffer}
+use Rattle.answers.specs.declared.BuildAnswer.{BuildAnswer}
+use Rattle.answers.specs.declared.BuildAnswer.the-variants.{Done, Refused}
+use Rattle.master.specs.Build.{telegramFor, admitted, builtOf}
 use Rattle.master.proofs.BuildLaws.{outcome-answer}
-use Rattle.reply.specs.declared.ReadAnswer.the-variants.{Read}
-use Rattle.reply.specs.declared.ReadFault.the-variants.{UnfitSetup, NotAsked, OtherNode, OtherLength, NotTheReply}
-use Rattle.reply.specs.declared.Content.the-variants.{Empty}
+use Rattle.answers.specs.declared.ReadAnswer.the-variants.{Read}
+use Rattle.answers.specs.declared.ReadFault.the-variants.{UnfitSetup, NotAsked, OtherNode, OtherLength, NotTheReply}
+use Rattle.answers.specs.declared.Content.the-variants.{Empty}
 use Rattle.reply.specs.declared.Reading.{Reading}
-use Rattle.reply.specs.Reply.{readNumber, badReply, replyContent, zeroWords, unreadOf, readNormal, readDecoded, readTask, readOf}
+use Rattle.reply.specs.Reply.{badReply, replyContent, zeroWords, unreadOf, readNormal, readDecoded, readTask, readOf}
 use Rattle.claims_master.specs.AnswerTable.{buildRows, readingRows}
+use Rattle.answers.specs.BuildNumbers.{builtNumber}
+use Rattle.answers.specs.ReadNumbers.{readNumber}
 
 -- ---- builds
 

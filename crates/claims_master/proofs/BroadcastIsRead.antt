@@ -18,9 +18,9 @@ use Rattle.frame.specs.Address.{decodedOf, kindOf}
 use Rattle.frame.specs.declared.Address.{Address}
 use Rattle.frame.specs.declared.Decoded.the-variants.{Broadcast as BroadcastTelegram}
 use Rattle.frame.proofs.AddressLaws.{to-all}
-use Rattle.net.specs.declared.Area.{Area}
+use Rattle.area.specs.declared.Area.{Area}
 use Rattle.net.specs.Net.{netOf}
-use Rattle.net.specs.Read.{processAt, Worded, firstWords}
+use Rattle.area.specs.Read.{processAt, Worded, firstWords}
 use Rattle.net.specs.Telegram.{telegramOf}
 use Rattle.net.proofs.NetLaws.{area-all}
 use Rattle.net.proofs.SealLaws.{length-telegram, telegram-decoded}
@@ -31,7 +31,7 @@ use Rattle.broadcast.proofs.VoidLaws.{not-void-commands}
 use Rattle.request.specs.declared.Request.the-variants.{Broadcast}
 use Rattle.request.specs.Request.{unusedZero, commandOf, expressible}
 use Rattle.slave.specs.declared.Served.{Served}
-use Rattle.slave.specs.declared.Answer.the-variants.{Taken}
+use Rattle.answers.specs.declared.Answer.the-variants.{Taken}
 use Rattle.slave.specs.Slave.{firstWord, commandAt, voidIn}
 use Rattle.slave.proofs.CaseLaws.{executed, broadcast-taken}
 use Rattle.master.specs.Build.{commandArea, telegramFor}

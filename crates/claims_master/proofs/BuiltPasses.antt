@@ -18,7 +18,7 @@ use Rattle.request.specs.declared.Request.{Request}
 use Rattle.request.specs.declared.Request.the-variants.{Task, Mirror, Broadcast}
 use Rattle.request.specs.Request.{expressible}
 use Rattle.request.proofs.RequestLaws.{mirror-asked}
-use Rattle.master.specs.declared.BuildAnswer.the-variants.{Done}
+use Rattle.answers.specs.declared.BuildAnswer.the-variants.{Done}
 use Rattle.master.specs.Build.{taskArea, commandArea, telegramFor, sent, builtOf}
 use Rattle.master.proofs.BuildLaws.{done-buildable}
 use Rattle.claims_master.specs.Claims.{SoundBuild}

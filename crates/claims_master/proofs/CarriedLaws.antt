@@ -13,7 +13,7 @@ use Rattle.task.specs.declared.Act.the-variants.{Nothing, Read, Change, Count, 
 use Rattle.task.specs.declared.Width.{Width}
 use Rattle.task.specs.declared.Width.the-variants.{Either, Word, Double}
 use Rattle.task.specs.Task.{taskOf}
-use Rattle.task.proofs.PageLaws.{nibble-small}
+use Rattle.page.proofs.PageLaws.{nibble-small}
 use Rattle.request.specs.Request.{valueFits, taskFits}
 use Rattle.request.proofs.RequestLaws.{AllZero, Asked, task-asked, asked-id}
 use Rattle.master.specs.Build.{taskArea}

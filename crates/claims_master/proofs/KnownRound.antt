@@ -4,7 +4,7 @@
 use mathlib.Core.Path.{_≡_, refl}
 use mathlib.Core.List.{[], _∷_, map}
 use Rattle.setup.specs.SetupRules.{setupOk}
-use Rattle.frame.specs.Bcc.{xorAll}
+use Rattle.bcc.specs.Bcc.{xorAll}
 use Rattle.frame.specs.Frame.{frameOf}
 use Rattle.frame.specs.Address.{addressOf}
 use Rattle.entry.specs.Fields.{entryOf, countOf}
@@ -13,12 +13,12 @@ use Rattle.table.specs.Records.{entryAt, entriesFrom, entries, countsOf}
 use Rattle.opening.specs.declared.Opening.the-variants.{Passed}
 use Rattle.opening.specs.Rules.{risingFrom, eachOk, runOk, runsOk}
 use Rattle.opening.specs.Answers.{openingOf}
-use Rattle.net.specs.Read.{valueAt, areaAt, processAt}
+use Rattle.area.specs.Read.{valueAt, areaAt, processAt}
 use Rattle.task.specs.Task.{tasks, taskOf}
-use Rattle.task.specs.Page.{nibbleOf}
+use Rattle.page.specs.Page.{nibbleOf}
 use Rattle.request.specs.Request.{unusedZero, valueFits, taskFits}
-use Rattle.reply.specs.declared.Content.the-variants.{Value, Failed}
-use Rattle.reply.specs.declared.ReadAnswer.the-variants.{Read}
+use Rattle.answers.specs.declared.Content.the-variants.{Value, Failed}
+use Rattle.answers.specs.declared.ReadAnswer.the-variants.{Read}
 use Rattle.reply.specs.Reply.{knownId, misfit, otherEcho, badReply, replyContent, readNormal, readTask, readOf}
 use Rattle.claims_known.specs.Telegrams.{setup, status, request1082, table1082, value1082, error1082}
 

@@ -17,21 +17,21 @@ use Rattle.frame.specs.declared.Decoded.{Decoded}
 use Rattle.opening.specs.declared.Opening.the-variants.{Passed}
 use Rattle.opening.specs.Answers.{openingOf}
 use Rattle.opening.proofs.AnswersLaws.{passed-opened}
-use Rattle.net.specs.declared.Area.{Area}
+use Rattle.area.specs.declared.Area.{Area}
 use Rattle.net.specs.Net.{netOf}
 use Rattle.net.specs.Telegram.{telegramOf}
-use Rattle.net.specs.Read.{emptyArea, Worded, firstWords}
+use Rattle.area.specs.Read.{emptyArea, Worded, firstWords}
 use Rattle.net.proofs.ReadLaws.{Headed, process-back}
 use Rattle.task.specs.Task.{tasks, taskOf}
-use Rattle.task.proofs.PageLaws.{named-back, id-back}
+use Rattle.page.proofs.PageLaws.{named-back, id-back}
 use Rattle.request.specs.declared.Request.the-variants.{Task}
 use Rattle.request.specs.Request.{unusedZero, taskFits, expressible}
 use Rattle.request.proofs.RequestLaws.{AllZero, Asked, task-asked}
 use Rattle.slave.specs.Slave.{taskDone, replyOf}
 use Rattle.slave.specs.Perform.{Performed, nothingDone, performTask, performOf}
 use Rattle.master.specs.Build.{taskArea, telegramFor}
-use Rattle.reply.specs.declared.Content.the-variants.{Empty}
-use Rattle.reply.specs.declared.ReadAnswer.the-variants.{Read}
+use Rattle.answers.specs.declared.Content.the-variants.{Empty}
+use Rattle.answers.specs.declared.ReadAnswer.the-variants.{Read}
 use Rattle.reply.specs.Reply.{replyContent, zeroWords, readNormal, readDecoded, readTask, readOf}
 use Rattle.claims_master.specs.Claims.{ReplyRead}
 use Rattle.claims_master.proofs.SentLaws.{normal-decoded}

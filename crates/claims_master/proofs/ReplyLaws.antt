@@ -7,17 +7,18 @@ use native.Mathlib.Omega.{arith}
 use borrow.Author.Tests.{eq-eqb, ne-eqb, eqb-true, ltb-false}
 use lib.Dec.{eqb, lit<}
 use Rattle.setup.proofs.SetupLaws.{Wide}
-use Rattle.net.specs.declared.Area.{Area}
-use Rattle.net.specs.Read.{emptyArea}
+use Rattle.area.specs.declared.Area.{Area}
+use Rattle.area.specs.Read.{emptyArea}
 use Rattle.net.proofs.ReadLaws.{Headed}
 use Rattle.task.specs.declared.Act.{Act}
 use Rattle.task.specs.Task.{taskOf}
-use Rattle.task.specs.Page.{nibbleOf, baseOf}
-use Rattle.task.proofs.PageLaws.{nibble-small, ind-nibble, ind-index, base-back, id-back, bit-zero}
+use Rattle.page.specs.Page.{nibbleOf, baseOf}
+use Rattle.page.proofs.PageLaws.{nibble-small, ind-nibble, ind-index, base-back, id-back, bit-zero}
 use Rattle.slave.specs.Perform.{replyArea}
 use Rattle.master.specs.Build.{taskArea}
-use Rattle.reply.specs.declared.Content.the-variants.{Value, Failed}
-use Rattle.reply.specs.Reply.{inRow, knownId, misfit, otherEcho, notEmpty, badReply, replyContent, contentId, contentValue}
+use Rattle.answers.specs.declared.Content.the-variants.{Value, Failed}
+use Rattle.reply.specs.Reply.{inRow, knownId, misfit, otherEcho, notEmpty, badReply, replyContent}
+use Rattle.answers.specs.ReadNumbers.{contentId, contentValue}
 
 -- an area that is read as the reply to a task, with its own reply ID and value
 pub record Replies (n id number index : ℕ) (p : Area) : Type 0 where

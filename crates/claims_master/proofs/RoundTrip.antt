@@ -8,13 +8,13 @@ use Rattle.words.specs.declared.Words.{Words}
 use Rattle.setup.specs.declared.Setup.{Setup}
 use Rattle.opening.specs.declared.Opening.the-variants.{Passed}
 use Rattle.opening.specs.Answers.{openingOf}
-use Rattle.net.specs.Read.{Worded}
+use Rattle.area.specs.Read.{Worded}
 use Rattle.net.proofs.SealLaws.{written-first}
 use Rattle.request.specs.declared.Request.{Request}
 use Rattle.request.specs.declared.Request.the-variants.{Task}
 use Rattle.slave.specs.Slave.{taskDone, replyOf, callOf, normalOutcome}
 use Rattle.slave.proofs.CaseLaws.{called}
-use Rattle.master.specs.declared.BuildAnswer.the-variants.{Done}
+use Rattle.answers.specs.declared.BuildAnswer.the-variants.{Done}
 use Rattle.master.specs.Build.{telegramFor, builtOf}
 use Rattle.master.proofs.BuildLaws.{done-buildable}
 use Rattle.reply.specs.Reply.{readOf}

@@ -12,7 +12,7 @@ use lib.ListN.{getD}
 use Rattle.setup.proofs.SetupLaws.{Wide}
 use Rattle.rows.proofs.BoolLaws.{or-first, or-second}
 use Rattle.rows.proofs.RangeLaws.{between}
-use Rattle.net.specs.declared.Area.{Area}
+use Rattle.area.specs.declared.Area.{Area}
 use Rattle.task.specs.declared.Act.{Act}
 use Rattle.task.specs.declared.Act.the-variants.{Nothing, Read, Change, Count, Refuse}
 use Rattle.task.specs.declared.Width.{Width}

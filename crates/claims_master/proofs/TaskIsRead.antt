@@ -14,12 +14,12 @@ use Rattle.setup.specs.SetupRules.{setupOk, netBytes}
 use Rattle.setup.proofs.SetupLaws.{Configured, ok-configured, area-few, Wide, area-wide}
 use Rattle.frame.specs.Address.{decodedOf}
 use Rattle.frame.specs.declared.Decoded.the-variants.{Normal}
-use Rattle.net.specs.declared.Area.{Area}
+use Rattle.area.specs.declared.Area.{Area}
 use Rattle.net.specs.Net.{netOf}
-use Rattle.net.specs.Read.{areaAt, processAt, Worded, firstWords}
+use Rattle.area.specs.Read.{areaAt, processAt, Worded, firstWords}
 use Rattle.net.specs.Telegram.{telegramOf}
 use Rattle.net.proofs.ReadLaws.{Headed, process-word, area-back, process-back}
-use Rattle.task.proofs.PageLaws.{ind-index, number-back, named-back, id-back}
+use Rattle.page.proofs.PageLaws.{ind-index, number-back, named-back, id-back}
 use Rattle.request.specs.declared.Request.the-variants.{Task}
 use Rattle.request.specs.Request.{unusedZero, taskFits, expressible}
 use Rattle.slave.specs.Slave.{firstWord, taskDone, controlTaken, executeOf, normalOutcome}

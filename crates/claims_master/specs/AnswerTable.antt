@@ -16,7 +16,7 @@ use Rattle.frame.specs.Frame.{frameRows, frameNumber}
 use Rattle.frame.specs.declared.FrameCheck.{FrameCheck}
 use Rattle.frame.specs.declared.FrameCheck.the-variants.{Sound, Broken}
 use Rattle.frame.specs.Address.{adrOf, broadcastBit, mirrorBit, topBit}
-use Rattle.net.specs.Read.{areaAt}
+use Rattle.area.specs.Read.{areaAt}
 use Rattle.request.specs.declared.Request.{Request}
 use Rattle.request.specs.declared.Request.the-variants.{Task, Mirror, Broadcast}
 use Rattle.request.specs.Request.{taskAskable, expressible}

@@ -19,18 +19,19 @@ use Rattle.frame.specs.declared.FrameCheck.the-variants.{Sound}
 use Rattle.frame.specs.declared.Decoded.the-variants.{Normal, Mirror as MirrorTelegram, Broadcast as BroadcastTelegram}
 use Rattle.setup.specs.declared.Setup.{Setup}
 use Rattle.setup.specs.SetupRules.{netBytes}
-use Rattle.net.specs.declared.Area.{Area}
-use Rattle.net.specs.Read.{areaAt, processAt, firstWords}
-use Rattle.task.specs.Page.{fullNumber, named}
+use Rattle.area.specs.declared.Area.{Area}
+use Rattle.area.specs.Read.{areaAt, processAt, firstWords}
+use Rattle.page.specs.Page.{fullNumber, named}
 use Rattle.broadcast.specs.Broadcast.{controlAfter}
 use Rattle.request.specs.declared.Request.{Request}
 use Rattle.request.specs.Request.{commandOf}
 use Rattle.slave.specs.Slave.{Outcome, sentBy, firstWord, commandAt, taskDone, controlTaken, normalOutcome, mirrorOutcome, executeOf, voidIn}
 use Rattle.slave.specs.Perform.{nothingDone, performOf}
-use Rattle.slave.specs.declared.Answer.the-variants.{Replied, Taken}
+use Rattle.answers.specs.declared.Answer.the-variants.{Replied, Taken}
 use Rattle.reply.specs.declared.Reading.{Reading}
-use Rattle.reply.specs.Reply.{readNumber, readId, readValue, zeroWords, readOf}
+use Rattle.reply.specs.Reply.{zeroWords, readOf}
 use Rattle.master.specs.Build.{BuildOutcome, taskArea, telegramFor}
+use Rattle.answers.specs.ReadNumbers.{readNumber, readId, readValue}
 
 -- of the outcome o of a build into the buffer out
 pub record SoundBuild (s : Setup) (r : Request) (net out : List ℕ) (o : BuildOutcome) : Type 0 where

@@ -6,7 +6,7 @@ use Rattle.rows.specs.Rows.{firstOf}
 use Rattle.setup.specs.declared.Setup.{Setup}
 use Rattle.setup.specs.SetupRules.{setupOk}
 use Rattle.table.specs.Records.{entriesFrom, entries, countsOf}
-use Rattle.frame.specs.Bcc.{xorAll}
+use Rattle.bcc.specs.Bcc.{xorAll}
 use Rattle.opening.specs.Rules.{risingFrom, eachOk, runsOk}
 use Rattle.broadcast.specs.Broadcast.{isVoid}
 use Rattle.claims_slave.specs.AnswerTable.{answerRows, acceptedNumber}

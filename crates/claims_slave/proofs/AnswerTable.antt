@@ -29,12 +29,13 @@ use Rattle.opening.specs.Answers.{openingRows, openingOf}
 use Rattle.opening.specs.declared.Opening.{Opening}
 use Rattle.opening.specs.declared.Opening.the-variants.{Passed}
 use Rattle.net.specs.Telegram.{written}
-use Rattle.slave.specs.declared.Refusal.the-variants.{OtherNode, OtherLength, VoidBroadcast}
+use Rattle.answers.specs.declared.Refusal.the-variants.{OtherNode, OtherLength, VoidBroadcast}
 use Rattle.slave.specs.declared.Served.{Served}
-use Rattle.slave.specs.Slave.{Outcome, MirrorSent, answerNumber, refusedServed, refusedOf, normalOutcome, normalCase, mirrorServed, mirrorCase, voidIn, takenServed, broadcastCase, executeDecoded, executeOf, callOpened, callOf}
+use Rattle.slave.specs.Slave.{Outcome, MirrorSent, refusedServed, refusedOf, normalOutcome, normalCase, mirrorServed, mirrorCase, voidIn, takenServed, broadcastCase, executeDecoded, executeOf, callOpened, callOf}
 use Rattle.slave.proofs.CaseLaws.{executed, called}
 use Rattle.claims_slave.specs.Outcomes.{NotFrame, PastFrame}
 use Rattle.claims_slave.specs.AnswerTable.{answerRows, acceptedNumber}
+use Rattle.answers.specs.SlaveNumbers.{answerNumber}
 
 -- ---- the kinds
 

@@ -14,18 +14,19 @@ use Rattle.setup.specs.declared.Setup.{Setup}
 use Rattle.frame.specs.Address.{decodedOf}
 use Rattle.frame.specs.Frame.{lastOf}
 use Rattle.frame.specs.declared.Decoded.{Decoded}
-use Rattle.frame.specs.declared.Decoded.the-variants.{Normal, Mirror, Broadcast, Refused as Unread}
+use Rattle.frame.specs.declared.Decoded.the-variants.{Normal, Mirror, Broadcast, Unread}
 use Rattle.frame.proofs.DecodedLaws.{normal-bounds}
 use Rattle.frame.proofs.NumberLaws.{fault-between}
 use Rattle.opening.specs.Answers.{openingOf}
-use Rattle.opening.specs.declared.OpeningFault.{OpeningFault}
+use Rattle.answers.specs.declared.OpeningFault.{OpeningFault}
 use Rattle.opening.specs.declared.Opening.{Opening}
-use Rattle.opening.specs.declared.Opening.the-variants.{Passed, Refused as Closed}
-use Rattle.slave.specs.declared.Refusal.{Refusal}
-use Rattle.slave.specs.declared.Refusal.the-variants.{AtOpening, InTelegram, OtherNode, OtherLength, VoidBroadcast}
+use Rattle.opening.specs.declared.Opening.the-variants.{Passed, Closed}
+use Rattle.answers.specs.declared.Refusal.{Refusal}
+use Rattle.answers.specs.declared.Refusal.the-variants.{AtOpening, InTelegram, OtherNode, OtherLength, VoidBroadcast}
 use Rattle.setup.specs.SetupRules.{netBytes}
-use Rattle.slave.specs.Slave.{Outcome, refusalNumber, refusedOf, normalOutcome, normalCase, mirrorOutcome, mirrorCase, voidIn, takenOutcome, broadcastCase, executeDecoded, callOf}
+use Rattle.slave.specs.Slave.{Outcome, refusedOf, normalOutcome, normalCase, mirrorOutcome, mirrorCase, voidIn, takenOutcome, broadcastCase, executeDecoded, callOf}
 use Rattle.slave.proofs.CaseLaws.{executed, called}
+use Rattle.answers.specs.SlaveNumbers.{refusalNumber}
 
 abbrev isPassed : Opening → Bool
 isPassed Passed = true

@@ -18,7 +18,7 @@ use Rattle.frame.specs.Frame.{frameOf, isSound}
 use Rattle.frame.specs.Address.{decodedFrom, decodedOf}
 use Rattle.frame.specs.declared.Fault.the-variants.{InFrame}
 use Rattle.frame.specs.declared.FrameCheck.{FrameCheck}
-use Rattle.frame.specs.declared.Decoded.the-variants.{Refused as Unread}
+use Rattle.frame.specs.declared.Decoded.the-variants.{Unread}
 use Rattle.frame.proofs.FrameLaws.{sound-framed}
 use Rattle.opening.specs.Answers.{openingOf}
 use Rattle.opening.specs.declared.Opening.the-variants.{Passed}

@@ -24,8 +24,8 @@ use Rattle.opening.specs.Answers.{openingOf}
 use Rattle.opening.specs.declared.Opening.the-variants.{Passed}
 use Rattle.opening.proofs.AnswersLaws.{passed-opened}
 use Rattle.opening.proofs.KeptLaws.{change-keeps-opening}
-use Rattle.net.specs.declared.Area.{Area}
-use Rattle.net.specs.Read.{areaAt}
+use Rattle.area.specs.declared.Area.{Area}
+use Rattle.area.specs.Read.{areaAt}
 use Rattle.net.proofs.NetLaws.{length-normal}
 use Rattle.net.proofs.SealLaws.{written-long}
 use Rattle.task.specs.declared.Act.{Act}
@@ -35,7 +35,7 @@ use Rattle.task.specs.declared.Task.{Task}
 use Rattle.task.specs.declared.Verdict.{Verdict}
 use Rattle.task.specs.declared.Verdict.the-variants.{Granted, Denied}
 use Rattle.task.specs.Task.{taskOf}
-use Rattle.task.specs.Page.{fullNumber, named}
+use Rattle.page.specs.Page.{fullNumber, named}
 use Rattle.task.specs.Verdict.{verdictOf, elementOf}
 use Rattle.slave.specs.Perform.{carried, nothingDone, doneOf, verdictFor, performOn, performFound, foundOf, idle, performOf}
 use Rattle.setup.specs.SetupRules.{netBytes}

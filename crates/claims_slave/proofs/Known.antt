@@ -9,21 +9,22 @@ use Rattle.setup.specs.SetupRules.{setupOk}
 use Rattle.entry.specs.Fields.{entryOf, countOf}
 use Rattle.entry.specs.Limits.{signedOf, numberOf, atMost, fitsIn, isWithin, entryOk}
 use Rattle.table.specs.Records.{entryAt, entriesFrom, entries, findFrom, countsOf}
-use Rattle.frame.specs.Bcc.{xorAll}
+use Rattle.bcc.specs.Bcc.{xorAll}
 use Rattle.frame.specs.Frame.{frameOf}
 use Rattle.frame.specs.Address.{addressOf}
 use Rattle.opening.specs.Rules.{risingFrom, eachOk, runOk, runsOk}
 use Rattle.opening.specs.Answers.{openingOf}
 use Rattle.net.specs.Net.{areaWords, netOf}
-use Rattle.net.specs.Read.{valueAt, areaAt, processAt}
+use Rattle.area.specs.Read.{valueAt, areaAt, processAt}
 use Rattle.task.specs.Task.{tasks, taskOf}
-use Rattle.task.specs.Page.{pageOf}
+use Rattle.page.specs.Page.{pageOf}
 use Rattle.task.specs.Verdict.{verdictOf, elementOf}
 use Rattle.broadcast.specs.Broadcast.{isVoid, mergeOf, controlAfter}
 use Rattle.slave.specs.Perform.{performOn, foundOf, performOf}
-use Rattle.slave.specs.Slave.{answerNumber, taskDone, controlTaken, replyOf, normalCase, mirrorCase, commandAt, broadcastCase, executeOf, callOf}
+use Rattle.slave.specs.Slave.{taskDone, controlTaken, replyOf, normalCase, mirrorCase, commandAt, broadcastCase, executeOf, callOf}
 use Rattle.claims_known.specs.Telegrams.{setup, twoWords, process, status, task1082, value1082}
 use Rattle.claims_slave.specs.Sequence.{State, Event, Seen, Run, runOf}
+use Rattle.answers.specs.SlaveNumbers.{answerNumber}
 
 -- parameter 1082, a writable word of 0 to 10000
 abbrev pub table : List ℕ

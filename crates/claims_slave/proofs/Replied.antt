@@ -27,13 +27,13 @@ use Rattle.frame.proofs.AddressLaws.{to-one}
 use Rattle.frame.proofs.DecodedLaws.{telegram-framed, normal-bounds}
 use Rattle.opening.proofs.AnswersLaws.{passed-opened}
 use Rattle.net.specs.Net.{netOf}
-use Rattle.net.specs.Read.{processAt}
+use Rattle.area.specs.Read.{processAt}
 use Rattle.net.proofs.NetLaws.{length-net}
-use Rattle.net.proofs.AreaLaws.{process-first}
+use Rattle.area.proofs.AreaLaws.{process-first}
 use Rattle.net.proofs.SealLaws.{telegram-passes, written-first, written-rest}
 use Rattle.broadcast.specs.Broadcast.{isVoid}
 use Rattle.broadcast.proofs.VoidLaws.{not-void-commands, runs-after}
-use Rattle.slave.specs.declared.Answer.the-variants.{Replied, Mirrored, Taken}
+use Rattle.answers.specs.declared.Answer.the-variants.{Replied, Mirrored, Taken}
 use Rattle.setup.specs.SetupRules.{netBytes}
 use Rattle.slave.specs.Slave.{firstWord, commandAt, taskDone, replyOf, controlTaken, callOf}
 use Rattle.task.specs.declared.Act.{Act}

@@ -9,12 +9,12 @@ use mathlib.Core.Bool.{Bool, true, false}
 use mathlib.Core.List.{List, [], _∷_, _++_}
 use lib.Dec.{lit<}
 use Rattle.setup.specs.declared.Setup.{Setup}
-use Rattle.slave.specs.Slave.{answerNumber}
 use Rattle.claims_slave.specs.Outcomes.{isRefused}
 use Rattle.rows.specs.Rows.{Each}
 use Rattle.claims_slave.specs.Sequence.{State, Event, Run, Opens, callAt, seenOf, stepOf, runOf, strike, kept}
 use Rattle.claims_slave.proofs.Cases.{call-cases}
 use Rattle.claims_slave.proofs.Kept.{refused-keeps, opening-kept}
+use Rattle.answers.specs.SlaveNumbers.{answerNumber}
 
 -- a refused call leaves the state as it was
 module _ (s : Setup) (t : List ℕ) (q : State) (e : Event) where

@@ -18,12 +18,13 @@ use Rattle.frame.specs.declared.Decoded.the-variants.{Normal, Mirror, Broadcast
 use Rattle.frame.proofs.DecodedLaws.{telegram-framed}
 use Rattle.opening.specs.Answers.{openingOf}
 use Rattle.opening.specs.declared.Opening.the-variants.{Passed}
-use Rattle.slave.specs.declared.Answer.the-variants.{Replied, Mirrored, Taken}
+use Rattle.answers.specs.declared.Answer.the-variants.{Replied, Mirrored, Taken}
 use Rattle.setup.specs.SetupRules.{netBytes}
-use Rattle.slave.specs.Slave.{Outcome, answerNumber, normalOutcome, mirrorOutcome, mirrorCase, voidIn, takenOutcome, callOf}
+use Rattle.slave.specs.Slave.{Outcome, normalOutcome, mirrorOutcome, mirrorCase, voidIn, takenOutcome, callOf}
 use Rattle.slave.proofs.CaseLaws.{normal-replied, broadcast-taken, executed, called}
 use Rattle.claims_slave.specs.Outcomes.{isRefused}
 use Rattle.claims_slave.proofs.Cases.{call-cases}
+use Rattle.answers.specs.SlaveNumbers.{answerNumber}
 
 module _ (s : Setup) (t vs : List ℕ) (control status : Words) (rx out : List ℕ) where
   abbrev after : Outcome

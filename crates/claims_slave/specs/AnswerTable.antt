@@ -9,7 +9,7 @@ use lib.ListN.{length, take}
 use Rattle.words.specs.Words.{byteAt}
 use Rattle.setup.specs.declared.Setup.{Setup}
 use Rattle.setup.specs.SetupRules.{setupOk, netBytes}
-use Rattle.frame.specs.Bcc.{xorAll}
+use Rattle.bcc.specs.Bcc.{xorAll}
 use Rattle.frame.specs.Frame.{lastOf}
 use Rattle.frame.specs.Address.{adrOf, broadcastBit, mirrorBit, topBit}
 use Rattle.opening.specs.Rules.{tableOk, valuesOk}

@@ -19,10 +19,10 @@ use Rattle.frame.specs.Frame.{frameOf}
 use Rattle.frame.specs.Address.{decodedOf}
 use Rattle.frame.specs.declared.FrameCheck.the-variants.{Sound}
 use Rattle.frame.specs.declared.Decoded.the-variants.{Normal}
-use Rattle.slave.specs.declared.Answer.{Answer}
-use Rattle.slave.specs.declared.Answer.the-variants.{Replied, Mirrored, Taken, Refused}
-use Rattle.net.specs.declared.Area.{Area}
-use Rattle.net.specs.Read.{areaAt}
+use Rattle.answers.specs.declared.Answer.{Answer}
+use Rattle.answers.specs.declared.Answer.the-variants.{Replied, Mirrored, Taken, Refused}
+use Rattle.area.specs.declared.Area.{Area}
+use Rattle.area.specs.Read.{areaAt}
 use Rattle.table.specs.Records.{entryAt, firstPlace}
 use Rattle.table.specs.declared.Found.the-variants.{At}
 use Rattle.task.specs.declared.Act.the-variants.{Change}
@@ -32,7 +32,8 @@ use Rattle.task.specs.Task.{taskOf}
 use Rattle.task.specs.Verdict.{elementOf}
 use Rattle.slave.specs.Perform.{carried, verdictFor, foundOf}
 use Rattle.setup.specs.SetupRules.{netBytes}
-use Rattle.slave.specs.Slave.{Outcome, sentBy, answerNumber}
+use Rattle.slave.specs.Slave.{Outcome, sentBy}
+use Rattle.answers.specs.SlaveNumbers.{answerNumber}
 
 abbrev pub isRefused : Answer → Bool
 isRefused Replied = false

@@ -15,7 +15,7 @@ use Rattle.words.specs.declared.Words.{Words}
 use Rattle.setup.specs.declared.Setup.{Setup}
 use Rattle.opening.specs.Answers.{openingOf}
 use Rattle.opening.specs.declared.Opening.the-variants.{Passed}
-use Rattle.slave.specs.declared.Answer.{Answer}
+use Rattle.answers.specs.declared.Answer.{Answer}
 use Rattle.slave.specs.Slave.{Outcome, sentBy, callOf}
 use Rattle.claims_slave.specs.Outcomes.{isRefused}
 

@@ -12,7 +12,7 @@ use Rattle.store.specs.Placed.{Placed, putOut, joined}
 use Rattle.frame.specs.Frame.{lastOf}
 use Rattle.frame.specs.Address.{decodedOf, faultNumber}
 use Rattle.frame.specs.declared.Decoded.{Decoded}
-use Rattle.frame.specs.declared.Decoded.the-variants.{Normal, Mirror, Broadcast, Refused}
+use Rattle.frame.specs.declared.Decoded.the-variants.{Normal, Mirror, Broadcast, Unread}
 
 -- the first line
 abbrev pub header : List ℕ
@@ -40,7 +40,7 @@ abbrev pub piecesOf : List ℕ → Decoded → List (List ℕ)
 piecesOf t (Normal node start end) = goodText t node (ascii "normal")
 piecesOf t (Mirror node) = goodText t node (ascii "mirror")
 piecesOf t Broadcast = goodText t (byteAt t 2 % 32) (ascii "broadcast")
-piecesOf t (Refused fault) = refusedPieces (length t) (faultNumber fault)
+piecesOf t (Unread fault) = refusedPieces (length t) (faultNumber fault)
 
 unfoldable pub listing : List ℕ → List ℕ
 listing t = joined (piecesOf t (decodedOf t))

@@ -11,10 +11,10 @@ use Rattle.setup.specs.declared.Setup.{Setup}
 use Rattle.setup.specs.SetupRules.{setupOk}
 use Rattle.request.specs.declared.Request.{Request}
 use Rattle.request.specs.Request.{expressible}
-use Rattle.master.specs.declared.BuildFault.{BuildFault}
-use Rattle.master.specs.declared.BuildFault.the-variants.{BadSetup, NotExpressible, ShortBuffer}
-use Rattle.master.specs.declared.BuildAnswer.{BuildAnswer}
-use Rattle.master.specs.declared.BuildAnswer.the-variants.{Done, Refused}
+use Rattle.answers.specs.declared.BuildFault.{BuildFault}
+use Rattle.answers.specs.declared.BuildFault.the-variants.{BadSetup, NotExpressible, ShortBuffer}
+use Rattle.answers.specs.declared.BuildAnswer.{BuildAnswer}
+use Rattle.answers.specs.declared.BuildAnswer.the-variants.{Done, Refused}
 use Rattle.master.specs.Build.{Builds, Sends, telegramFor, unbuilt, sent, outcomeOf, admitted, builtOf}
 
 abbrev isDone : BuildAnswer → Bool

@@ -13,27 +13,18 @@ use lib.ListN.{length}
 use Rattle.rows.specs.Rows.{firstOf}
 use Rattle.setup.specs.declared.Setup.{Setup}
 use Rattle.setup.specs.SetupRules.{setupOk}
-use Rattle.net.specs.declared.Area.{Area}
+use Rattle.area.specs.declared.Area.{Area}
 use Rattle.net.specs.Net.{netOf}
 use Rattle.net.specs.Telegram.{telegramOf, written}
-use Rattle.task.specs.Page.{nibbleOf}
+use Rattle.page.specs.Page.{nibbleOf}
 use Rattle.request.specs.declared.Request.{Request}
 use Rattle.request.specs.declared.Request.the-variants.{Task, Mirror, Broadcast}
 use Rattle.request.specs.Request.{expressible}
-use Rattle.master.specs.declared.BuildFault.{BuildFault}
-use Rattle.master.specs.declared.BuildFault.the-variants.{BadSetup, NotExpressible, ShortBuffer}
-use Rattle.master.specs.declared.BuildAnswer.{BuildAnswer}
-use Rattle.master.specs.declared.BuildAnswer.the-variants.{Done, Refused}
+use Rattle.answers.specs.declared.BuildFault.{BuildFault}
+use Rattle.answers.specs.declared.BuildFault.the-variants.{BadSetup, NotExpressible, ShortBuffer}
+use Rattle.answers.specs.declared.BuildAnswer.{BuildAnswer}
+use Rattle.answers.specs.declared.BuildAnswer.the-variants.{Done, Refused}
 use Rattle.master.specs.declared.Built.{Built}
-
-abbrev pub buildNumber : BuildFault → ℕ
-buildNumber BadSetup = 30
-buildNumber NotExpressible = 31
-buildNumber ShortBuffer = 32
-
-abbrev pub builtNumber : BuildAnswer → ℕ
-builtNumber Done = 0
-builtNumber (Refused fault) = buildNumber fault
 
 -- PKE is task ID and base, IND is page and index
 unfoldable pub taskArea : ℕ → ℕ → ℕ → ℕ → Area

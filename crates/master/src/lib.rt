@@ -9,22 +9,12 @@ ghost use Rattle.net.specs.Net.{netOf};
 ghost use Rattle.setup.specs.SetupRules.{setupOk};
 ghost use Rattle.request.specs.declared.Request.the-variants.{Task, Mirror, Broadcast};
 ghost use Rattle.master.specs.Build.{Sends, Builds, taskArea, commandArea, admitted, builtOf};
-use net::Area;
+use answers::BuildAnswer;
+use answers::BuildFault;
+use area::Area;
 use request::Request;
 use setup::Setup;
 use words::Words;
-
-// Why no telegram is built: 30, 31, 32.
-pub enum BuildFault {
-    BadSetup,
-    NotExpressible,
-    ShortBuffer,
-}
-
-pub enum BuildAnswer {
-    Done,
-    Refused(BuildFault),
-}
 
 // What a build returns: its answer, and the telegram's length, 0 in a refusal.
 pub struct Built {
@@ -61,7 +51,7 @@ fn write_task(
     requires { ⌜ (setupOk setup ≡ true) × (256 ≤ length (now out)) × (id ≤ 15) ⌝ }
     ensures { λ r. ⌜ Sends (telegramOf (setup .node) (netOf (taskArea id number index value) (setup .pkw) process (setup .pzd))) (now (out .entry)) r (now (out .exit)) ⌝ }
 {
-    let nibble = task::nibble_of(number);
+    let nibble = page::nibble_of(number);
     let area = Area {
         pke: (id as u16) * 4096 + number % 2000,
         ind: (nibble as u16) * 4096 + index as u16,

@@ -13,37 +13,37 @@ use Rattle.rows.proofs.BoolLaws.{and-left, and-right}
 use Rattle.setup.specs.declared.Setup.{Setup}
 use Rattle.setup.specs.SetupRules.{setupOk}
 use Rattle.table.specs.Records.{entries, countsOf}
-use Rattle.opening.specs.declared.OpeningFault.{OpeningFault}
-use Rattle.opening.specs.declared.OpeningFault.the-variants.{BadSetup, BadTable, BadValues, ShortBuffer}
+use Rattle.answers.specs.declared.OpeningFault.{OpeningFault}
+use Rattle.answers.specs.declared.OpeningFault.the-variants.{BadSetup, BadTable, BadValues, ShortBuffer}
 use Rattle.opening.specs.declared.Opening.{Opening}
-use Rattle.opening.specs.declared.Opening.the-variants.{Passed, Refused}
+use Rattle.opening.specs.declared.Opening.the-variants.{Passed, Closed}
 use Rattle.opening.specs.Rules.{risingFrom, eachOk, runsOk, tableOk, valuesOk}
 use Rattle.opening.specs.Answers.{openingRows, openingOf, contentOf}
 
 -- two tests refuse: so do they with a third after them
-two-refuse : (a b d : Bool) (f : OpeningFault) → firstOf ((not a, Refused BadTable) ∷ (not b, Refused BadValues) ∷ []) Passed ≡ Refused f
-    → firstOf ((not a, Refused BadTable) ∷ (not b, Refused BadValues) ∷ (d, Refused ShortBuffer) ∷ []) Passed ≡ Refused f
+two-refuse : (a b d : Bool) (f : OpeningFault) → firstOf ((not a, Closed BadTable) ∷ (not b, Closed BadValues) ∷ []) Passed ≡ Closed f
+    → firstOf ((not a, Closed BadTable) ∷ (not b, Closed BadValues) ∷ (d, Closed ShortBuffer) ∷ []) Passed ≡ Closed f
 two-refuse false b d f e = e
 two-refuse true false d f e = e
 two-refuse true true d f e = let z : _≡_ {A = ℕ} 0 1 = cc in absurd (omega arith)
 
 -- two tests pass: the third decides
-two-pass : (a b d : Bool) → firstOf ((not a, Refused BadTable) ∷ (not b, Refused BadValues) ∷ []) Passed ≡ Passed
-    → firstOf ((not a, Refused BadTable) ∷ (not b, Refused BadValues) ∷ (d, Refused ShortBuffer) ∷ []) Passed ≡ cond d (Refused ShortBuffer) Passed
+two-pass : (a b d : Bool) → firstOf ((not a, Closed BadTable) ∷ (not b, Closed BadValues) ∷ []) Passed ≡ Passed
+    → firstOf ((not a, Closed BadTable) ∷ (not b, Closed BadValues) ∷ (d, Closed ShortBuffer) ∷ []) Passed ≡ cond d (Closed ShortBuffer) Passed
 two-pass false b d e = let z : _≡_ {A = ℕ} 0 1 = cc in absurd (omega arith)
 two-pass true false d e = let z : _≡_ {A = ℕ} 0 1 = cc in absurd (omega arith)
 two-pass true true d e = refl
 
 module _ (s : Setup) (t vs : List ℕ) (room : ℕ) where
-  pub open-setup : setupOk s ≡ false → openingOf s t vs room ≡ Refused BadSetup
+  pub open-setup : setupOk s ≡ false → openingOf s t vs room ≡ Closed BadSetup
   unfolding openingOf
   open-setup a = rw a
 
-  pub open-content : (f : OpeningFault) → setupOk s ≡ true → contentOf t vs ≡ Refused f → openingOf s t vs room ≡ Refused f
+  pub open-content : (f : OpeningFault) → setupOk s ≡ true → contentOf t vs ≡ Closed f → openingOf s t vs room ≡ Closed f
   unfolding openingOf contentOf
   open-content f a e = rw a (two-refuse (tableOk t) (valuesOk t vs) (ltb room 256) f e)
 
-  pub open-buffer : setupOk s ≡ true → contentOf t vs ≡ Passed → room < 256 → openingOf s t vs room ≡ Refused ShortBuffer
+  pub open-buffer : setupOk s ≡ true → contentOf t vs ≡ Passed → room < 256 → openingOf s t vs room ≡ Closed ShortBuffer
   unfolding openingOf contentOf
   open-buffer a e h = rw a (two-pass (tableOk t) (valuesOk t vs) (ltb room 256) e ∙ rw (lt-ltb room 256 h))
 
@@ -74,7 +74,7 @@ pub record Opened (s : Setup) (t vs : List ℕ) (room : ℕ) : Type 0 where
   pub buffer : 256 ≤ room
 
 -- a passing check fails each of its rows
-all-passed : (a b c d : Bool) → firstOf ((not a, Refused BadSetup) ∷ (not b, Refused BadTable) ∷ (not c, Refused BadValues) ∷ (d, Refused ShortBuffer) ∷ []) Passed ≡ Passed
+all-passed : (a b c d : Bool) → firstOf ((not a, Closed BadSetup) ∷ (not b, Closed BadTable) ∷ (not c, Closed BadValues) ∷ (d, Closed ShortBuffer) ∷ []) Passed ≡ Passed
     → (a ≡ true) × (b ≡ true) × (c ≡ true) × (d ≡ false)
 all-passed true true true false e = (refl, refl, refl, refl)
 all-passed false b c d e = let z : _≡_ {A = ℕ} 0 1 = cc in absurd (omega arith)

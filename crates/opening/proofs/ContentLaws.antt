@@ -7,28 +7,28 @@ use native.Mathlib.Omega.{arith}
 use borrow.Author.Tests.{lt-leb, ne-eqb, eqb-true}
 use lib.ListN.{length}
 use lib.Dec.{eqb}
-use Rattle.opening.specs.declared.Opening.the-variants.{Passed, Refused}
-use Rattle.opening.specs.declared.OpeningFault.the-variants.{BadTable, BadValues}
+use Rattle.opening.specs.declared.Opening.the-variants.{Passed, Closed}
+use Rattle.answers.specs.declared.OpeningFault.the-variants.{BadTable, BadValues}
 use Rattle.opening.specs.Rules.{tableOk, valuesOk}
 use Rattle.opening.specs.Answers.{contentOf}
 
-content-tests : (a b : Bool) → cond (not a) (Refused BadTable) (cond (not b) (Refused BadValues) Passed) ≡ cond (a && b) Passed (cond a (Refused BadValues) (Refused BadTable))
+content-tests : (a b : Bool) → cond (not a) (Closed BadTable) (cond (not b) (Closed BadValues) Passed) ≡ cond (a && b) Passed (cond a (Closed BadValues) (Closed BadTable))
 content-tests false b = refl
 content-tests true false = refl
 content-tests true true = refl
 
 module _ (t vs : List ℕ) where
-  content-is : contentOf t vs ≡ cond (tableOk t && valuesOk t vs) Passed (cond (tableOk t) (Refused BadValues) (Refused BadTable))
+  content-is : contentOf t vs ≡ cond (tableOk t && valuesOk t vs) Passed (cond (tableOk t) (Closed BadValues) (Closed BadTable))
   unfolding contentOf
   content-is = content-tests (tableOk t) (valuesOk t vs)
 
   pub content-passed : (tableOk t && valuesOk t vs) ≡ true → contentOf t vs ≡ Passed
   content-passed h = content-is ∙ rw h
 
-  pub content-values : (tableOk t && valuesOk t vs) ≡ false → tableOk t ≡ true → contentOf t vs ≡ Refused BadValues
+  pub content-values : (tableOk t && valuesOk t vs) ≡ false → tableOk t ≡ true → contentOf t vs ≡ Closed BadValues
   content-values h o = content-is ∙ rw (h, o)
 
-  pub content-table : tableOk t ≡ false → contentOf t vs ≡ Refused BadTable
+  pub content-table : tableOk t ≡ false → contentOf t vs ≡ Closed BadTable
   content-table o = content-is ∙ rw o
 
 -- a table of another length, or of more records, breaks a rule

@@ -7,8 +7,8 @@ use Rattle.entry.specs.Fields.{entryOf, countOf}
 use Rattle.entry.specs.Limits.{signedOf, numberOf, atMost, fitsIn, isWithin, entryOk}
 use Rattle.table.specs.Records.{entryAt, entriesFrom, entries, countsOf}
 use Rattle.opening.specs.declared.Opening.{Opening}
-use Rattle.opening.specs.declared.Opening.the-variants.{Passed, Refused}
-use Rattle.opening.specs.declared.OpeningFault.the-variants.{BadSetup, BadTable, BadValues, ShortBuffer}
+use Rattle.opening.specs.declared.Opening.the-variants.{Passed, Closed}
+use Rattle.answers.specs.declared.OpeningFault.the-variants.{BadSetup, BadTable, BadValues, ShortBuffer}
 use Rattle.opening.specs.Rules.{risingFrom, eachOk, runOk, runsOk}
 use Rattle.opening.specs.Answers.{openingOf}
 
@@ -42,6 +42,6 @@ pub known-openings : map openingFor
     ∷ givenOf 31 threeRecords (0 ∷ 10 ∷ 100 ∷ 1 ∷ []) 255
     ∷ givenOf 31 [] [] 256
     ∷ [])
-    ≡ Passed ∷ Refused BadSetup ∷ Refused BadTable ∷ Refused BadValues ∷ Refused BadValues ∷ Refused ShortBuffer ∷ Passed ∷ []
+    ≡ Passed ∷ Closed BadSetup ∷ Closed BadTable ∷ Closed BadValues ∷ Closed BadValues ∷ Closed ShortBuffer ∷ Passed ∷ []
 unfolding openingOf setupOk entryOf countOf signedOf numberOf atMost fitsIn isWithin entryOk entryAt entriesFrom entries countsOf risingFrom eachOk runOk runsOk
 known-openings = refl

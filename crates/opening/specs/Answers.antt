@@ -9,23 +9,17 @@ use lib.Dec.{ltb}
 use Rattle.rows.specs.Rows.{firstOf}
 use Rattle.setup.specs.declared.Setup.{Setup}
 use Rattle.setup.specs.SetupRules.{setupOk}
-use Rattle.opening.specs.declared.OpeningFault.{OpeningFault}
-use Rattle.opening.specs.declared.OpeningFault.the-variants.{BadSetup, BadTable, BadValues, ShortBuffer}
+use Rattle.answers.specs.declared.OpeningFault.{OpeningFault}
+use Rattle.answers.specs.declared.OpeningFault.the-variants.{BadSetup, BadTable, BadValues, ShortBuffer}
 use Rattle.opening.specs.declared.Opening.{Opening}
-use Rattle.opening.specs.declared.Opening.the-variants.{Passed, Refused}
+use Rattle.opening.specs.declared.Opening.the-variants.{Passed, Closed}
 use Rattle.opening.specs.Rules.{tableOk, valuesOk}
 
-abbrev pub openingNumber : OpeningFault → ℕ
-openingNumber BadSetup = 20
-openingNumber BadTable = 21
-openingNumber BadValues = 22
-openingNumber ShortBuffer = 23
-
 abbrev pub contentRows : List ℕ → List ℕ → List (Bool × Opening)
-contentRows t vs = (not (tableOk t), Refused BadTable) ∷ (not (valuesOk t vs), Refused BadValues) ∷ []
+contentRows t vs = (not (tableOk t), Closed BadTable) ∷ (not (valuesOk t vs), Closed BadValues) ∷ []
 
 abbrev pub openingRows : Setup → List ℕ → List ℕ → ℕ → List (Bool × Opening)
-openingRows s t vs room = (not (setupOk s), Refused BadSetup) ∷ contentRows t vs ++ (ltb room 256, Refused ShortBuffer) ∷ []
+openingRows s t vs room = (not (setupOk s), Closed BadSetup) ∷ contentRows t vs ++ (ltb room 256, Closed ShortBuffer) ∷ []
 
 unfoldable pub contentOf : List ℕ → List ℕ → Opening
 contentOf t vs = firstOf (contentRows t vs) Passed

@@ -10,6 +10,7 @@ ghost use Rattle.entry.specs.Fields.{entryOf, countOf};
 ghost use Rattle.entry.specs.Limits.{limitsOk, isWithin};
 ghost use Rattle.opening.specs.Rules.{runOk, tableOk, valuesOk};
 ghost use Rattle.opening.specs.Answers.{contentOf, openingOf};
+use answers::OpeningFault;
 use entry::Entry;
 use entry::count_places;
 use entry::entry_of;
@@ -20,17 +21,9 @@ use setup::setup_ok;
 use table::Record;
 use table::record_of;
 
-// Why the opening check refuses.
-pub enum OpeningFault {
-    BadSetup,
-    BadTable,
-    BadValues,
-    ShortBuffer,
-}
-
 pub enum Opening {
     Passed,
-    Refused(OpeningFault),
+    Closed(OpeningFault),
 }
 
 // ---- a record
@@ -205,18 +198,18 @@ fn check_content(t: &[u8], values: &[u32]) -> Opening
     ensures { λ r. ⌜ r ≡ contentOf (now (t .entry)) (now (values .entry)) ⌝ }
 {
     if 512 * 12 < t.len() {
-        return Opening::Refused(OpeningFault::BadTable);
+        return Opening::Closed(OpeningFault::BadTable);
     }
     if t.len() % 12 != 0 {
-        return Opening::Refused(OpeningFault::BadTable);
+        return Opening::Closed(OpeningFault::BadTable);
     }
     if in_order(t, values) {
         return Opening::Passed;
     }
     if table_ok(t, t.len() / 12) {
-        return Opening::Refused(OpeningFault::BadValues);
+        return Opening::Closed(OpeningFault::BadValues);
     }
-    Opening::Refused(OpeningFault::BadTable)
+    Opening::Closed(OpeningFault::BadTable)
 }
 
 // The opening check. `room` is the length of the reply buffer.
@@ -224,14 +217,14 @@ pub fn open(setup: Setup, table: &[u8], values: &[u32], room: usize) -> Opening
     ensures { λ r. ⌜ r ≡ openingOf setup (now (table .entry)) (now (values .entry)) room ⌝ }
 {
     if !setup_ok(setup) {
-        return Opening::Refused(OpeningFault::BadSetup);
+        return Opening::Closed(OpeningFault::BadSetup);
     }
     let content = check_content(table, values);
     match content {
-        Opening::Refused(fault) => Opening::Refused(fault),
+        Opening::Closed(fault) => Opening::Closed(fault),
         Opening::Passed => {
             if room < 256 {
-                Opening::Refused(OpeningFault::ShortBuffer)
+                Opening::Closed(OpeningFault::ShortBuffer)
             } else {
                 Opening::Passed
             }

@@ -18,57 +18,23 @@ use Rattle.setup.specs.SetupRules.{setupOk, netBytes}
 use Rattle.frame.specs.Address.{decodedOf, faultNumber}
 use Rattle.frame.specs.declared.Fault.the-variants.{InAddress}
 use Rattle.frame.specs.declared.Decoded.{Decoded}
-use Rattle.frame.specs.declared.Decoded.the-variants.{Normal, Mirror as MirrorTelegram, Broadcast as BroadcastTelegram, Refused}
-use Rattle.net.specs.declared.Area.{Area}
-use Rattle.net.specs.Read.{areaAt, processAt}
+use Rattle.frame.specs.declared.Decoded.the-variants.{Normal, Mirror as MirrorTelegram, Broadcast as BroadcastTelegram, Unread}
+use Rattle.area.specs.declared.Area.{Area}
+use Rattle.area.specs.Read.{areaAt, processAt}
 use Rattle.task.specs.declared.Act.{Act}
 use Rattle.task.specs.declared.Act.the-variants.{Nothing, Read as Reads, Change, Count, Refuse}
 use Rattle.task.specs.Task.{taskOf}
-use Rattle.task.specs.Page.{baseOf, nibbleOf}
+use Rattle.page.specs.Page.{baseOf, nibbleOf}
 use Rattle.request.specs.declared.Request.{Request}
 use Rattle.request.specs.declared.Request.the-variants.{Task, Mirror, Broadcast}
 use Rattle.request.specs.Request.{taskAskable}
-use Rattle.reply.specs.declared.Content.{Content}
-use Rattle.reply.specs.declared.Content.the-variants.{Empty, Value, Failed, NoRight}
-use Rattle.reply.specs.declared.ReadFault.{ReadFault}
-use Rattle.reply.specs.declared.ReadFault.the-variants.{UnfitSetup, NotAsked, InTelegram, OtherNode, OtherLength, NotTheReply}
-use Rattle.reply.specs.declared.ReadAnswer.{ReadAnswer}
-use Rattle.reply.specs.declared.ReadAnswer.the-variants.{Read, Unread}
+use Rattle.answers.specs.declared.Content.{Content}
+use Rattle.answers.specs.declared.Content.the-variants.{Empty, Value, Failed, NoRight}
+use Rattle.answers.specs.declared.ReadFault.{ReadFault}
+use Rattle.answers.specs.declared.ReadFault.the-variants.{UnfitSetup, NotAsked, InTelegram, OtherNode, OtherLength, NotTheReply}
+use Rattle.answers.specs.declared.ReadAnswer.{ReadAnswer}
+use Rattle.answers.specs.declared.ReadAnswer.the-variants.{Read, Unread}
 use Rattle.reply.specs.declared.Reading.{Reading}
-
--- ---- the document's numbers and values
-
-abbrev pub readFaultNumber : ReadFault → ℕ
-readFaultNumber UnfitSetup = 30
-readFaultNumber NotAsked = 31
-readFaultNumber (InTelegram fault) = faultNumber fault
-readFaultNumber OtherNode = 16
-readFaultNumber OtherLength = 17
-readFaultNumber NotTheReply = 33
-
-abbrev pub contentId : Content → ℕ
-contentId Empty = 0
-contentId (Value id value) = id
-contentId (Failed error) = 7
-contentId NoRight = 8
-
-abbrev pub contentValue : Content → ℕ
-contentValue Empty = 0
-contentValue (Value id value) = value
-contentValue (Failed error) = error
-contentValue NoRight = 0
-
-abbrev pub readNumber : ReadAnswer → ℕ
-readNumber (Read content) = 0
-readNumber (Unread fault) = readFaultNumber fault
-
-abbrev pub readId : ReadAnswer → ℕ
-readId (Read content) = contentId content
-readId (Unread fault) = 0
-
-abbrev pub readValue : ReadAnswer → ℕ
-readValue (Read content) = contentValue content
-readValue (Unread fault) = 0
 
 -- ---- 33
 
@@ -153,7 +119,7 @@ abbrev pub readDecoded : Decoded → Setup → ℕ → ℕ → ℕ → List ℕ 
 readDecoded (Normal node start end) s id number index rx = readNormal node (end - start) s id number index rx
 readDecoded (MirrorTelegram node) s id number index rx = unreadOf (InTelegram InAddress)
 readDecoded BroadcastTelegram s id number index rx = unreadOf (InTelegram InAddress)
-readDecoded (Refused fault) s id number index rx = unreadOf (InTelegram fault)
+readDecoded (Unread fault) s id number index rx = unreadOf (InTelegram fault)
 
 unfoldable pub readTask : Setup → ℕ → ℕ → ℕ → List ℕ → Reading
 readTask s id number index rx = readDecoded (decodedOf rx) s id number index rx

@@ -4,37 +4,16 @@ ghost use mathlib.Core.Bool.{true, _||_};
 ghost use Prim.Native.Nat.{_+_, _≤_};
 ghost use lib.Dec.{eqb};
 ghost use Rattle.reply.specs.Reply.{inRow, knownId, misfit, notEmpty, otherEcho, badReply, replyContent, unreadOf, readNormal, readTask, readOf, zeroWords};
+use answers::Content;
+use answers::ReadAnswer;
+use answers::ReadFault;
+use area::Area;
 use frame::Decoded;
 use frame::Fault;
-use net::Area;
 use request::Request;
 use setup::Setup;
 use task::Act;
 use words::Words;
-
-// What a reply holds: nothing (task 0, or no parameter area), a value with its reply ID, an error number (ID 7), or the
-// word that the master has no right (ID 8).
-pub enum Content {
-    Empty,
-    Value { id: u8, value: u32 },
-    Failed { error: u16 },
-    NoRight,
-}
-
-// Why a reply is not read: 30, 31, 10 to 17, 33.
-pub enum ReadFault {
-    UnfitSetup,
-    NotAsked,
-    InTelegram(Fault),
-    OtherNode,
-    OtherLength,
-    NotTheReply,
-}
-
-pub enum ReadAnswer {
-    Read(Content),
-    Unread(ReadFault),
-}
 
 // What a reading returns: its answer, and the reply's process words, all 0 in a refusal.
 pub struct Reading {
@@ -110,7 +89,7 @@ fn is_other(number: u16, index: u8, area: Area) -> bool
     if area.pke % 2048 != number % 2000 {
         return true;
     }
-    if area.ind / 4096 != task::nibble_of(number) as u16 {
+    if area.ind / 4096 != page::nibble_of(number) as u16 {
         return true;
     }
     if area.ind % 256 != index as u16 {
@@ -208,14 +187,14 @@ fn read_normal(
     if n != setup::net_bytes(setup) {
         return refuse(ReadFault::OtherLength);
     }
-    let process = net::read_process(received, setup.pkw, setup.pzd, zero_words());
+    let process = area::read_process(received, setup.pkw, setup.pzd, zero_words());
     if setup.pkw == 0 {
         return Reading {
             answer: ReadAnswer::Read(Content::Empty),
             process,
         };
     }
-    let area = net::read_area(received, setup.pkw);
+    let area = area::read_area(received, setup.pkw);
     if is_bad(setup.pkw, id, number, index, area) {
         return refuse(ReadFault::NotTheReply);
     }
@@ -230,7 +209,7 @@ fn read_task(setup: Setup, id: u8, number: u16, index: u8, received: &[u8]) -> R
     ensures { λ r. ⌜ r ≡ readTask setup id number index (now (received .entry)) ⌝ }
 {
     match frame::decode(received) {
-        Decoded::Refused(fault) => refuse(ReadFault::InTelegram(fault)),
+        Decoded::Unread(fault) => refuse(ReadFault::InTelegram(fault)),
         Decoded::Mirror { node: _ } => refuse(ReadFault::InTelegram(Fault::InAddress)),
         Decoded::Broadcast => refuse(ReadFault::InTelegram(Fault::InAddress)),
         Decoded::Normal {

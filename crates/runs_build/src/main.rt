@@ -1,6 +1,6 @@
 // Builds of requests, a line for each: document 01's number, the length, the telegram's bytes.
-use master::BuildAnswer;
-use master::BuildFault;
+use answers::BuildAnswer;
+use answers::BuildFault;
 use master::Built;
 use request::Request;
 use setup::Setup;

@@ -1,8 +1,8 @@
 // Runs the opening check and writes a line for each group of cases: a label, and document 01's number of each case, 0 where
 // nothing is refused.
 // Kinds of a parameter: 0 word, 2 signed word, 4 double, 6 signed double; 1 more where it is writable.
+use answers::OpeningFault;
 use opening::Opening;
-use opening::OpeningFault;
 use opening::open;
 use setup::Setup;
 
@@ -18,7 +18,7 @@ fn fault_number(fault: OpeningFault) -> u64 {
 fn answer_number(answer: Opening) -> u64 {
     match answer {
         Opening::Passed => 0,
-        Opening::Refused(fault) => fault_number(fault),
+        Opening::Closed(fault) => fault_number(fault),
     }
 }
 

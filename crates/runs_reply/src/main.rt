@@ -1,8 +1,8 @@
 // Readings of replies, a line for each: document 01's number, reply ID, value or error number, process words.
+use answers::Content;
+use answers::ReadAnswer;
+use answers::ReadFault;
 use frame::number_fault;
-use reply::Content;
-use reply::ReadAnswer;
-use reply::ReadFault;
 use request::Request;
 use setup::Setup;
 use words::Words;

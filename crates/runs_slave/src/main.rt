@@ -1,11 +1,11 @@
 // Runs the slave call on telegrams of documents 000, 002 and 01, and writes a line for each: the set-up, the received bytes,
 // document 01's answer number, the reply's length and bytes, the control words, and each value place that is not as it was.
+use answers::Answer;
+use answers::OpeningFault;
+use answers::Refusal;
+use area::Area;
 use frame::number_fault;
-use net::Area;
-use opening::OpeningFault;
 use setup::Setup;
-use slave::Answer;
-use slave::Refusal;
 use slave::serve;
 use words::Words;
 

@@ -12,20 +12,20 @@ use Rattle.words.specs.declared.Words.{Words}
 use Rattle.setup.specs.declared.Setup.{Setup}
 use Rattle.setup.specs.SetupRules.{netBytes}
 use Rattle.setup.proofs.SetupLaws.{Configured, area-few}
-use Rattle.net.specs.declared.Area.{Area}
-use Rattle.net.specs.Read.{areaAt, processAt}
+use Rattle.area.specs.declared.Area.{Area}
+use Rattle.area.specs.Read.{areaAt, processAt}
 use Rattle.net.specs.Net.{normalOf, normalLength}
 use Rattle.net.specs.Telegram.{written}
 use Rattle.net.proofs.NetLaws.{normal-sent}
-use Rattle.net.proofs.AreaLaws.{area-three, area-four, process-first}
+use Rattle.area.proofs.AreaLaws.{area-three, area-four, process-first}
 use Rattle.frame.specs.declared.Decoded.{Decoded}
 use Rattle.frame.specs.Address.{decodedOf}
 use Rattle.opening.specs.declared.Opening.{Opening}
 use Rattle.opening.specs.Answers.{openingOf}
 use Rattle.broadcast.specs.declared.Command.{Command}
 use Rattle.broadcast.specs.Broadcast.{isVoid, controlAfter}
-use Rattle.slave.specs.declared.Answer.the-variants.{Taken}
-use Rattle.slave.specs.declared.Refusal.the-variants.{OtherNode, OtherLength, VoidBroadcast}
+use Rattle.answers.specs.declared.Answer.the-variants.{Taken}
+use Rattle.answers.specs.declared.Refusal.the-variants.{OtherNode, OtherLength, VoidBroadcast}
 use Rattle.slave.specs.Slave.{firstWord, commandAt, refusedServed, refusedOf, replyOf, normalOutcome, normalCase, broadcastCase, executeDecoded, executeOf, callOpened, callOf, voidIn}
 
 -- ---- what is read of a telegram

@@ -11,7 +11,7 @@ use lib.ListN.{length}
 use Rattle.entry.specs.declared.Entry.{Entry}
 use Rattle.entry.specs.Fields.{countOf}
 use Rattle.entry.specs.Limits.{isWithin}
-use Rattle.net.specs.declared.Area.{Area}
+use Rattle.area.specs.declared.Area.{Area}
 use Rattle.table.specs.declared.Found.{Found}
 use Rattle.table.specs.declared.Found.the-variants.{At}
 use Rattle.table.specs.Records.{findIn, entryAt, entries, firstPlace, countsOf}
@@ -25,7 +25,7 @@ use Rattle.task.specs.declared.ParameterError.the-variants.{NoParameter}
 use Rattle.task.specs.declared.Verdict.the-variants.{Granted, Denied}
 use Rattle.rows.proofs.RangeLaws.{between}
 use Rattle.task.specs.Task.{tasks, taskOf}
-use Rattle.task.specs.Page.{baseOf, fullNumber}
+use Rattle.page.specs.Page.{baseOf, fullNumber}
 use Rattle.task.specs.Verdict.{changesAct, lacksElement, verdictOf, elementOf}
 use Rattle.task.proofs.TaskLaws.{refused-on}
 use Rattle.task.proofs.VerdictLaws.{granted-clear}

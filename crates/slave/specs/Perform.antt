@@ -11,8 +11,8 @@ use mathlib.Core.Bool.{Bool, true, false, cond}
 use mathlib.Core.List.{List}
 use lib.Dec.{eqb}
 use lib.ListN.{getD, set}
-use Rattle.net.specs.declared.Area.{Area}
-use Rattle.net.specs.Read.{emptyArea}
+use Rattle.area.specs.declared.Area.{Area}
+use Rattle.area.specs.Read.{emptyArea}
 use Rattle.entry.specs.declared.Entry.{Entry}
 use Rattle.entry.specs.Limits.{isWithin}
 use Rattle.table.specs.declared.Found.{Found}
@@ -28,7 +28,7 @@ use Rattle.task.specs.declared.ParameterError.the-variants.{NoParameter, NoTask
 use Rattle.task.specs.declared.Verdict.{Verdict}
 use Rattle.task.specs.declared.Verdict.the-variants.{Granted, Denied}
 use Rattle.task.specs.Task.{taskOf}
-use Rattle.task.specs.Page.{baseOf, fullNumber, named}
+use Rattle.page.specs.Page.{baseOf, fullNumber, named}
 use Rattle.task.specs.Verdict.{verdictOf, elementOf, errorNumber}
 
 -- ---- replies

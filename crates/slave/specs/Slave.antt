@@ -22,37 +22,23 @@ use Rattle.setup.specs.declared.Setup.{Setup}
 use Rattle.setup.specs.SetupRules.{netBytes}
 use Rattle.frame.specs.Address.{decodedOf, faultNumber}
 use Rattle.frame.specs.declared.Decoded.{Decoded}
-use Rattle.frame.specs.declared.Decoded.the-variants.{Normal, Mirror, Broadcast, Refused as Unread}
-use Rattle.opening.specs.Answers.{openingOf, openingNumber}
+use Rattle.frame.specs.declared.Decoded.the-variants.{Normal, Mirror, Broadcast, Unread}
+use Rattle.opening.specs.Answers.{openingOf}
 use Rattle.opening.specs.declared.Opening.{Opening}
-use Rattle.opening.specs.declared.Opening.the-variants.{Passed, Refused as Closed}
-use Rattle.net.specs.declared.Area.{Area}
+use Rattle.opening.specs.declared.Opening.the-variants.{Passed, Closed}
+use Rattle.area.specs.declared.Area.{Area}
 use Rattle.net.specs.Net.{netOf}
 use Rattle.net.specs.Telegram.{telegramOf, written}
-use Rattle.net.specs.Read.{areaAt, processAt}
+use Rattle.area.specs.Read.{areaAt, processAt}
 use Rattle.broadcast.specs.declared.Command.{Command}
 use Rattle.broadcast.specs.Broadcast.{isVoid, controlAfter}
-use Rattle.slave.specs.declared.Refusal.{Refusal}
-use Rattle.slave.specs.declared.Refusal.the-variants.{AtOpening, InTelegram, OtherNode, OtherLength, VoidBroadcast}
-use Rattle.slave.specs.declared.Answer.{Answer}
-use Rattle.slave.specs.declared.Answer.the-variants.{Replied, Mirrored, Taken, Refused}
+use Rattle.answers.specs.declared.Refusal.{Refusal}
+use Rattle.answers.specs.declared.Refusal.the-variants.{AtOpening, InTelegram, OtherNode, OtherLength, VoidBroadcast}
+use Rattle.answers.specs.declared.Answer.{Answer}
+use Rattle.answers.specs.declared.Answer.the-variants.{Replied, Mirrored, Taken, Refused}
 use Rattle.slave.specs.declared.Served.{Served}
 use Rattle.slave.specs.Perform.{Performed, nothingDone, performOf}
-
--- ---- the document's numbers
-
-abbrev pub refusalNumber : Refusal → ℕ
-refusalNumber (AtOpening fault) = openingNumber fault
-refusalNumber (InTelegram fault) = faultNumber fault
-refusalNumber OtherNode = 16
-refusalNumber OtherLength = 17
-refusalNumber VoidBroadcast = 18
-
-abbrev pub answerNumber : Answer → ℕ
-answerNumber Replied = 0
-answerNumber Mirrored = 1
-answerNumber Taken = 2
-answerNumber (Refused refusal) = refusalNumber refusal
+use Rattle.answers.specs.SlaveNumbers.{openingNumber}
 
 -- ---- outcomes
 

@@ -12,13 +12,15 @@ ghost use Rattle.opening.specs.declared.Opening.the-variants.{Passed};
 ghost use Rattle.setup.specs.SetupRules.{setupOk};
 ghost use Rattle.slave.specs.Perform.{replyArea, errorArea, elementCount, carried, readReply, doneOf, performOn, performOf, Performs};
 ghost use Rattle.slave.specs.Slave.{Leaves, refusedServed, taskDone, controlTaken, commandAt, normalCase, mirrorCase, broadcastCase, executeOf, callOf};
+use answers::Answer;
+use answers::OpeningFault;
+use answers::Refusal;
+use area::Area;
 use broadcast::Command;
 use entry::Entry;
 use frame::Decoded;
 use frame::Fault;
-use net::Area;
 use opening::Opening;
-use opening::OpeningFault;
 use setup::Setup;
 use table::Found;
 use task::Act;
@@ -27,23 +29,6 @@ use task::Task;
 use task::Verdict;
 use task::Width;
 use words::Words;
-
-// Why a call is refused: by the opening check (20 to 23), by the frame or the address (10 to 15), or 16, 17, 18.
-pub enum Refusal {
-    AtOpening(OpeningFault),
-    InTelegram(Fault),
-    OtherNode,
-    OtherLength,
-    VoidBroadcast,
-}
-
-// The answer of a call.
-pub enum Answer {
-    Replied,
-    Mirrored,
-    Taken,
-    Refused(Refusal),
-}
 
 // What a call returns: its answer, the reply's length, and the control words afterwards.
 pub struct Served {
@@ -122,7 +107,7 @@ fn run_act(
     ensures { λ r. ⌜ Performs (doneOf act reply area double elements value (now (values .entry)) place) r (now (values .exit)) ⌝ }
 {
     match act {
-        Act::Nothing => net::empty_area(),
+        Act::Nothing => area::empty_area(),
         Act::Read => {
             let value = values[place];
             reply_area(area, pick_reply_id(reply, double), value)
@@ -230,12 +215,12 @@ fn perform(n: u8, table: &[u8], values: &mut [u32], area: Area) -> Area
 {
     let id = (area.pke / 4096) as u8;
     if id == 0 {
-        return net::empty_area();
+        return area::empty_area();
     }
     if 2000 <= area.pke % 2048 {
         return error_area(area, ParameterError::NoParameter);
     }
-    let number = task::full_number(area.pke, area.ind);
+    let number = page::full_number(area.pke, area.ind);
     match table::find(table, number) {
         Found::Nothing => error_area(area, ParameterError::NoParameter),
         Found::At(k) => {
@@ -252,9 +237,9 @@ fn run_task(n: u8, table: &[u8], values: &mut [u32], received: &[u8]) -> Area
     ensures { λ r. ⌜ Performs (taskDone n (now (table .entry)) (now (values .entry)) (now (received .entry))) r (now (values .exit)) ⌝ }
 {
     if n == 0 {
-        return net::empty_area();
+        return area::empty_area();
     }
-    let area = net::read_area(received, n);
+    let area = area::read_area(received, n);
     perform(n, table, values, area)
 }
 
@@ -264,7 +249,7 @@ fn run_task(n: u8, table: &[u8], values: &mut [u32], received: &[u8]) -> Area
 fn take_control(setup: Setup, control: Words, received: &[u8]) -> Words
     ensures { λ r. ⌜ r ≡ controlTaken setup control (now (received .entry)) ⌝ }
 {
-    let process = net::read_process(received, setup.pkw, setup.pzd, control);
+    let process = area::read_process(received, setup.pkw, setup.pzd, control);
     if setup.pzd != 0 {
         if process.w1 / 1024 % 2 == 1 {
             return process;
@@ -278,7 +263,7 @@ fn read_command(received: &[u8], n: u8) -> Command
     requires { ⌜ ((n ≡ 0 → ⊥) → (3 ≤ n) × (n ≤ 4)) ⌝ }
     ensures { λ r. ⌜ ((n ≡ 0 → ⊥) → r ≡ commandAt (now (received .entry)) n) ⌝ }
 {
-    let area = net::read_area(received, n);
+    let area = area::read_area(received, n);
     if n == 4 {
         return Command {
             selector: area.pke,
@@ -361,7 +346,7 @@ fn serve_broadcast(setup: Setup, control: Words, received: &[u8], n: usize) -> S
         return refuse(Refusal::OtherLength, control);
     }
     let command = read_command(received, setup.pkw);
-    let process = net::read_process(received, setup.pkw, setup.pzd, control);
+    let process = area::read_process(received, setup.pkw, setup.pzd, control);
     if broadcast::is_void(command, setup.pkw, setup.pzd, process.w1) {
         return refuse(Refusal::VoidBroadcast, control);
     }
@@ -387,7 +372,7 @@ fn execute(
     ensures { λ r. ⌜ Leaves (executeOf setup (now (table .entry)) (now (values .entry)) control status (now (received .entry)) (now (reply .entry))) r (now (values .exit)) (now (reply .exit)) ⌝ }
 {
     match frame::decode(received) {
-        Decoded::Refused(fault) => refuse(Refusal::InTelegram(fault), control),
+        Decoded::Unread(fault) => refuse(Refusal::InTelegram(fault), control),
         Decoded::Mirror { node } => serve_mirror(setup, control, received, reply, node),
         Decoded::Broadcast => serve_broadcast(setup, control, received, received.len() - 4),
         Decoded::Normal {
@@ -425,7 +410,7 @@ pub fn serve(
     ensures { λ r. ⌜ Leaves (callOf setup (now (table .entry)) (now (values .entry)) control status (now (received .entry)) (now (reply .entry))) r (now (values .exit)) (now (reply .exit)) ⌝ }
 {
     match opening::open(setup, table, &values[..], reply.len()) {
-        Opening::Refused(fault) => refuse(Refusal::AtOpening(fault), control),
+        Opening::Closed(fault) => refuse(Refusal::AtOpening(fault), control),
         Opening::Passed => execute(setup, table, values, control, status, received, reply),
     }
 }

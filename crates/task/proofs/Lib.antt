@@ -1,4 +1,3 @@
--- Laws of pages, tasks and errors.
-pub mod PageLaws
+-- Laws of tasks and errors.
 pub mod TaskLaws
 pub mod VerdictLaws

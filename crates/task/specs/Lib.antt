@@ -1,4 +1,3 @@
--- Tasks, pages and errors, as document 01 has them.
+-- Tasks and errors, as document 01 has them.
 pub mod Task
-pub mod Page
 pub mod Verdict

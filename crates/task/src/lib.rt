@@ -1,9 +1,7 @@
-// Tasks (document 01, Parameter area): what a task ID asks, the page nibble and the full number, and the errors of a task
-// on a parameter, in the document's order.
+// Tasks (document 01, Parameter area): what a task ID asks, and the errors of a task on a parameter, in the document's order.
 ghost use mathlib.Core.Path.{_≡_};
 ghost use Rattle.task.specs.Task.{taskRow, taskOf};
 ghost use Rattle.task.specs.declared.Width.the-variants.{Word, Double};
-ghost use Rattle.task.specs.Page.{pageOf, nibbleOf, fullNumber};
 ghost use Rattle.task.specs.Verdict.{refusesAct, changesAct, countsAct, differsWidth, lacksArray, lacksElement, lacksRoom, verdictOf, errorNumber, elementOf};
 ghost use mathlib.Core.Bool.{cond};
 
@@ -49,12 +47,6 @@ pub enum Verdict {
     Denied(ParameterError),
 }
 
-// The sixteen pages by their nibble: bit 15 of IND is 1, bit 14 is 8, bit 13 is 4, bit 12 is 2.
-const PAGES: [u8; 16] = [0, 2, 4, 6, 8, 10, 12, 14, 1, 3, 5, 7, 9, 11, 13, 15];
-
-// The sixteen nibbles by their page.
-const NIBBLES: [u8; 16] = [0, 8, 1, 9, 2, 10, 3, 11, 4, 12, 5, 13, 6, 14, 7, 15];
-
 // A row of the task table.
 fn row(act: Act, width: Width, array: bool, reply: u8) -> Task
     ensures { λ r. ⌜ r ≡ taskRow act width array reply ⌝ }
@@ -89,30 +81,6 @@ pub fn task_of(id: u8) -> Task
         13..=14 => row(Act::Change, width_of(id == 14), false, 15 - id),
         _ => row(Act::Refuse, Width::Either, false, 7),
     }
-}
-
-// The page of an IND word, by its upper four bits.
-pub fn page_of(ind: u16) -> u8
-    ensures { λ r. ⌜ r ≡ pageOf ind ⌝ }
-{
-    let nibble = (ind / 4096) as usize;
-    PAGES[nibble]
-}
-
-// The upper four bits of the IND word of a number: those of its page, number / 2000; 0 past page 15.
-pub fn nibble_of(number: u16) -> u8
-    ensures { λ r. ⌜ r ≡ nibbleOf number ⌝ }
-{
-    let page = (number / 2000) as usize;
-    if page < 16 { NIBBLES[page] } else { 0 }
-}
-
-// The full number of PKE and IND: 2000 times the page, and the base.
-pub fn full_number(pke: u16, ind: u16) -> u16
-    ensures { λ r. ⌜ r ≡ fullNumber pke ind ⌝ }
-{
-    let page = page_of(ind);
-    (page as u16) * 2000 + pke % 2048
 }
 
 // The document's number of an error.

@@ -5,14 +5,16 @@ use Prim.Native.Nat.{ℕ, _≤_}
 use Rattle.words.specs.declared.Words.{Words}
 use Rattle.setup.specs.declared.Setup.{Setup}
 use Rattle.slave.specs.declared.Served.{Served}
-use Rattle.slave.specs.Slave.{Leaves, Outcome, answerNumber, callOf}
+use Rattle.slave.specs.Slave.{Leaves, Outcome, callOf}
 use Rattle.request.specs.declared.Request.{Request}
 use Rattle.master.specs.declared.Built.{Built}
-use Rattle.master.specs.Build.{Builds, BuildOutcome, builtNumber, builtOf}
+use Rattle.master.specs.Build.{Builds, BuildOutcome, builtOf}
 use Rattle.uss_c.specs.declared.UssWords.{UssWords}
 use Rattle.uss_c.specs.declared.UssBuilt.{UssBuilt}
 use Rattle.uss_c.specs.Host.{hostWords, hostBuilt, SlaveLeaves, BuildLeaves}
 use Rattle.uss_c.proofs.LengthLaws.{call-most, built-most}
+use Rattle.answers.specs.SlaveNumbers.{answerNumber}
+use Rattle.answers.specs.BuildNumbers.{builtNumber}
 
 -- ---- the slave
 

@@ -15,27 +15,27 @@ use Rattle.setup.specs.SetupRules.{netBytes}
 use Rattle.setup.proofs.SetupLaws.{Configured, ok-configured, area-few}
 use Rattle.frame.specs.Address.{decodedOf}
 use Rattle.frame.specs.declared.Decoded.{Decoded}
-use Rattle.frame.specs.declared.Decoded.the-variants.{Normal, Mirror, Broadcast, Refused as Unread}
+use Rattle.frame.specs.declared.Decoded.the-variants.{Normal, Mirror, Broadcast, Unread}
 use Rattle.frame.proofs.DecodedLaws.{telegram-framed}
-use Rattle.net.specs.declared.Area.{Area}
+use Rattle.area.specs.declared.Area.{Area}
 use Rattle.net.specs.Net.{netOf}
 use Rattle.net.specs.Telegram.{telegramOf, written}
 use Rattle.net.proofs.SealLaws.{length-telegram}
 use Rattle.net.proofs.NetLaws.{length-normal}
 use Rattle.opening.specs.declared.Opening.{Opening}
-use Rattle.opening.specs.declared.Opening.the-variants.{Passed, Refused as Closed}
+use Rattle.opening.specs.declared.Opening.the-variants.{Passed, Closed}
 use Rattle.opening.specs.Answers.{openingOf}
 use Rattle.opening.proofs.AnswersLaws.{passed-opened}
 use Rattle.slave.specs.declared.Served.{Served}
-use Rattle.slave.specs.declared.Refusal.the-variants.{OtherNode, OtherLength, VoidBroadcast}
+use Rattle.answers.specs.declared.Refusal.the-variants.{OtherNode, OtherLength, VoidBroadcast}
 use Rattle.slave.specs.Slave.{Outcome, MirrorSent, refusedServed, refusedOf, voidIn, taskDone, replyOf, normalOutcome, normalCase, mirrorServed, mirrorCase, takenServed, broadcastCase, executeDecoded, callOpened, callOf}
 use Rattle.slave.proofs.CaseLaws.{executed}
 use Rattle.request.specs.declared.Request.{Request}
 use Rattle.request.specs.declared.Request.the-variants.{Task, Mirror as MirrorOf, Broadcast as BroadcastOf}
 use Rattle.request.specs.Request.{expressible}
 use Rattle.request.proofs.RequestLaws.{mirror-asked}
-use Rattle.master.specs.declared.BuildAnswer.{BuildAnswer}
-use Rattle.master.specs.declared.BuildAnswer.the-variants.{Done, Refused}
+use Rattle.answers.specs.declared.BuildAnswer.{BuildAnswer}
+use Rattle.answers.specs.declared.BuildAnswer.the-variants.{Done, Refused}
 use Rattle.master.specs.Build.{taskArea, commandArea, telegramFor, outcomeOf, admitted, builtOf}
 use Rattle.master.proofs.BuildLaws.{done-admitted}
 use Rattle.store.specs.Placed.{Placed, putOut}

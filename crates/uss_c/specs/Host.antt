@@ -9,16 +9,18 @@ use mathlib.Core.List.{List}
 use Prim.Native.Nat.{ℕ}
 use Rattle.setup.specs.declared.Setup.{Setup}
 use Rattle.words.specs.declared.Words.{Words}
-use Rattle.slave.specs.Slave.{Outcome, answerNumber}
+use Rattle.slave.specs.Slave.{Outcome}
 use Rattle.master.specs.declared.Built.{Built}
-use Rattle.master.specs.Build.{BuildOutcome, builtNumber}
+use Rattle.master.specs.Build.{BuildOutcome}
 use Rattle.reply.specs.declared.Reading.{Reading}
-use Rattle.reply.specs.Reply.{readNumber, readId, readValue}
 use Rattle.uss_c.specs.declared.UssSetup.{UssSetup}
 use Rattle.uss_c.specs.declared.UssWords.{UssWords}
 use Rattle.uss_c.specs.declared.UssAnswer.{UssAnswer}
 use Rattle.uss_c.specs.declared.UssBuilt.{UssBuilt}
 use Rattle.uss_c.specs.declared.UssReply.{UssReply}
+use Rattle.answers.specs.SlaveNumbers.{answerNumber}
+use Rattle.answers.specs.BuildNumbers.{builtNumber}
+use Rattle.answers.specs.ReadNumbers.{readNumber, readId, readValue}
 
 abbrev pub setupOf : UssSetup → Setup
 setupOf s = record { node = s .node; pkw = s .pkw; pzd = s .pzd }

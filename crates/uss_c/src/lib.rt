@@ -3,28 +3,30 @@
 ghost use mathlib.Core.Path.{_≡_};
 ghost use mathlib.Core.List.{[]};
 ghost use Prim.Native.Nat.{_≤_};
-ghost use Rattle.frame.specs.Bcc.{xorAll};
+ghost use Rattle.bcc.specs.Bcc.{xorAll};
 ghost use Rattle.frame.specs.Address.{faultNumber};
-ghost use Rattle.opening.specs.Answers.{openingNumber};
 ghost use Rattle.request.specs.declared.Request.the-variants.{Task, Mirror, Broadcast};
-ghost use Rattle.slave.specs.Slave.{refusalNumber, answerNumber, callOf};
-ghost use Rattle.master.specs.Build.{buildNumber, builtNumber, builtOf};
-ghost use Rattle.reply.specs.Reply.{readFaultNumber, contentId, contentValue, readOf};
+ghost use Rattle.slave.specs.Slave.{callOf};
+ghost use Rattle.master.specs.Build.{builtOf};
+ghost use Rattle.reply.specs.Reply.{readOf};
 ghost use Rattle.listing.specs.Listing.{listedOf};
 ghost use Rattle.uss_c.specs.Host.{setupOf, ownWords, hostWords, hostBuilt, SlaveLeaves, BuildLeaves, ReplyGives};
+ghost use Rattle.answers.specs.SlaveNumbers.{openingNumber, refusalNumber, answerNumber};
+ghost use Rattle.answers.specs.BuildNumbers.{buildNumber, builtNumber};
+ghost use Rattle.answers.specs.ReadNumbers.{readFaultNumber, contentId, contentValue};
+use answers::Answer;
+use answers::BuildAnswer;
+use answers::BuildFault;
+use answers::Content;
+use answers::OpeningFault;
+use answers::ReadAnswer;
+use answers::ReadFault;
+use answers::Refusal;
 use frame::Fault;
-use master::BuildAnswer;
-use master::BuildFault;
 use master::Built;
-use opening::OpeningFault;
-use reply::Content;
-use reply::ReadAnswer;
-use reply::ReadFault;
 use reply::Reading;
 use request::Request;
 use setup::Setup;
-use slave::Answer;
-use slave::Refusal;
 use words::Words;
 
 // ---- the structs that cross
@@ -99,100 +101,6 @@ fn give_words(words: Words) -> UssWords
 
 // ---- the document's numbers
 
-fn number_fault(fault: Fault) -> u32
-    ensures { λ r. ⌜ r ≡ faultNumber fault ⌝ }
-{
-    frame::number_fault(fault) as u32
-}
-
-fn number_opening(fault: OpeningFault) -> u32
-    ensures { λ r. ⌜ r ≡ openingNumber fault ⌝ }
-{
-    match fault {
-        OpeningFault::BadSetup => 20,
-        OpeningFault::BadTable => 21,
-        OpeningFault::BadValues => 22,
-        OpeningFault::ShortBuffer => 23,
-    }
-}
-
-fn number_refusal(refusal: Refusal) -> u32
-    ensures { λ r. ⌜ r ≡ refusalNumber refusal ⌝ }
-{
-    match refusal {
-        Refusal::AtOpening(fault) => number_opening(fault),
-        Refusal::InTelegram(fault) => number_fault(fault),
-        Refusal::OtherNode => 16,
-        Refusal::OtherLength => 17,
-        Refusal::VoidBroadcast => 18,
-    }
-}
-
-fn number_answer(answer: Answer) -> u32
-    ensures { λ r. ⌜ r ≡ answerNumber answer ⌝ }
-{
-    match answer {
-        Answer::Replied => 0,
-        Answer::Mirrored => 1,
-        Answer::Taken => 2,
-        Answer::Refused(refusal) => number_refusal(refusal),
-    }
-}
-
-fn number_build(fault: BuildFault) -> u32
-    ensures { λ r. ⌜ r ≡ buildNumber fault ⌝ }
-{
-    match fault {
-        BuildFault::BadSetup => 30,
-        BuildFault::NotExpressible => 31,
-        BuildFault::ShortBuffer => 32,
-    }
-}
-
-fn number_built(answer: BuildAnswer) -> u32
-    ensures { λ r. ⌜ r ≡ builtNumber answer ⌝ }
-{
-    match answer {
-        BuildAnswer::Done => 0,
-        BuildAnswer::Refused(fault) => number_build(fault),
-    }
-}
-
-fn number_read_fault(fault: ReadFault) -> u32
-    ensures { λ r. ⌜ r ≡ readFaultNumber fault ⌝ }
-{
-    match fault {
-        ReadFault::UnfitSetup => 30,
-        ReadFault::NotAsked => 31,
-        ReadFault::InTelegram(f) => number_fault(f),
-        ReadFault::OtherNode => 16,
-        ReadFault::OtherLength => 17,
-        ReadFault::NotTheReply => 33,
-    }
-}
-
-fn give_content_id(content: Content) -> u32
-    ensures { λ r. ⌜ r ≡ contentId content ⌝ }
-{
-    match content {
-        Content::Empty => 0,
-        Content::Value { id, value } => id as u32,
-        Content::Failed { error } => 7,
-        Content::NoRight => 8,
-    }
-}
-
-fn give_content_value(content: Content) -> u32
-    ensures { λ r. ⌜ r ≡ contentValue content ⌝ }
-{
-    match content {
-        Content::Empty => 0,
-        Content::Value { id, value } => value,
-        Content::Failed { error } => error as u32,
-        Content::NoRight => 0,
-    }
-}
-
 // A reading as it is returned.
 fn give_reply(reading: Reading) -> UssReply
     ensures { λ r. ⌜ ReplyGives reading r ⌝ }
@@ -202,12 +110,12 @@ fn give_reply(reading: Reading) -> UssReply
     match answer {
         ReadAnswer::Read(content) => UssReply {
             number: 0,
-            id: give_content_id(content),
-            value: give_content_value(content),
+            id: answers::id_of_content(content),
+            value: answers::value_of_content(content),
             process,
         },
         ReadAnswer::Unread(fault) => UssReply {
-            number: number_read_fault(fault),
+            number: answers::number_read_fault(fault),
             id: 0,
             value: 0,
             process,
@@ -240,7 +148,7 @@ pub extern "C" fn uss_slave(
     );
     let answer = served.answer;
     UssAnswer {
-        number: number_answer(answer),
+        number: answers::number_answer(answer),
         length: served.length as u32,
         control: give_words(served.control),
     }
@@ -266,7 +174,7 @@ fn give_built(built: Built) -> UssBuilt
 {
     let answer = built.answer;
     UssBuilt {
-        number: number_built(answer),
+        number: answers::number_built(answer),
         length: built.length as u32,
     }
 }
@@ -348,5 +256,5 @@ pub extern "C" fn uss_list(received: &[u8], out: &mut [u8]) -> u32
 pub extern "C" fn uss_bcc(bytes: &[u8]) -> u8
     ensures { λ r. ⌜ r ≡ xorAll (now (bytes .entry)) ⌝ }
 {
-    frame::bcc(bytes)
+    bcc::bcc(bytes)
 }

@@ -6,7 +6,7 @@ use Prim.Native.Nat.{_*_}
 use native.Mathlib.Omega.{arith}
 use borrow.Author.Tests.{eq-eqb, ne-eqb}
 use lib.Dec.{eqb}
-use Rattle.net.specs.declared.Area.{Area}
+use Rattle.area.specs.declared.Area.{Area}
 use Rattle.net.proofs.NetLaws.{normal-sent}
 use Rattle.setup.proofs.SetupLaws.{ok-configured, area-few}
 use Rattle.master.specs.Build.{commandArea}

@@ -2,10 +2,10 @@
 use mathlib.Core.Path.{_∙_}
 use Prim.Native.Nat.{_+_, _*_, _%_}
 use native.Mathlib.Omega.{arith}
-use Rattle.net.specs.declared.Area.{Area}
+use Rattle.area.specs.declared.Area.{Area}
 use Rattle.net.proofs.NetLaws.{normal-sent}
 use Rattle.setup.proofs.SetupLaws.{ok-configured, area-few}
-use Rattle.task.proofs.PageLaws.{nibble-small}
+use Rattle.page.proofs.PageLaws.{nibble-small}
 use Rattle.master.specs.Build.{taskArea}
 use borrow.Author.Needs.{needs}
 use Rattle.master.proofs.write_task.Statement.{statement}
@@ -13,7 +13,7 @@ use Rattle.master.proofs.write_task.Tie as tie
 use Rattle.master.proofs.write_task.Reads as reads
 use Rattle.master.proofs.write_task.Lts as lts
 use Rattle.net.proofs.write_normal.Reads as write-normal-reads
-use Rattle.task.proofs.nibble_of.Reads as nibble-of-reads
+use Rattle.page.proofs.nibble_of.Reads as nibble-of-reads
 
 nibble-of-requires : tie.Need-nibble-of-requires
 nibble-of-requires c κs = search needs

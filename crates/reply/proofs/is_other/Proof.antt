@@ -12,7 +12,7 @@ use Rattle.reply.proofs.is_other.Statement.{statement}
 use Rattle.reply.proofs.is_other.Tie as tie
 use Rattle.reply.proofs.is_other.Reads as reads
 use Rattle.reply.proofs.is_other.Lts as lts
-use Rattle.task.proofs.nibble_of.Reads as nibble-of-reads
+use Rattle.page.proofs.nibble_of.Reads as nibble-of-reads
 
 returns : tie.Need-returns
 unfolding otherEcho

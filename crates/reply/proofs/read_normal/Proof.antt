@@ -3,15 +3,15 @@ use mathlib.Core.Path.{_≡_, sym, _∙_}
 use Rattle.rows.proofs.RowsLaws.{tests}
 use borrow.Author.Tests.{eq-eqb, ne-eqb}
 use Rattle.setup.specs.SetupRules.{netBytes}
-use Rattle.net.specs.Read.{areaAt, processAt}
+use Rattle.area.specs.Read.{areaAt, processAt}
 use Rattle.reply.specs.Reply.{zeroWords, badReply, readNormal}
 use borrow.Author.Needs.{needs}
 use Rattle.reply.proofs.read_normal.Statement.{statement}
 use Rattle.reply.proofs.read_normal.Tie as tie
 use Rattle.reply.proofs.read_normal.Reads as reads
 use Rattle.reply.proofs.read_normal.Lts as lts
-use Rattle.net.proofs.read_area.Reads as read-area-reads
-use Rattle.net.proofs.read_process.Reads as read-process-reads
+use Rattle.area.proofs.read_area.Reads as read-area-reads
+use Rattle.area.proofs.read_process.Reads as read-process-reads
 use Rattle.reply.proofs.is_bad.Reads as is-bad-reads
 use Rattle.reply.proofs.read_content.Reads as read-content-reads
 use Rattle.reply.proofs.refuse.Reads as refuse-reads

@@ -6,7 +6,7 @@ use native.Mathlib.Omega.{arith}
 use Rattle.table.specs.declared.Found.the-variants.{Nothing}
 use Rattle.table.specs.Records.{findIn}
 use Rattle.task.specs.Task.{tasks, taskOf}
-use Rattle.task.specs.Page.{fullNumber}
+use Rattle.page.specs.Page.{fullNumber}
 use Rattle.task.proofs.TaskLaws.{reply-small}
 use Rattle.slave.specs.Perform.{idle, performOf}
 use Rattle.slave.proofs.PerformLaws.{found-whole, found-fits, task-busy, task-unnamed, task-found}
@@ -15,13 +15,13 @@ use Rattle.slave.proofs.perform.Statement.{statement}
 use Rattle.slave.proofs.perform.Tie as tie
 use Rattle.slave.proofs.perform.Reads as reads
 use Rattle.slave.proofs.perform.Lts as lts
-use Rattle.net.proofs.empty_area.Reads as empty-area-reads
+use Rattle.area.proofs.empty_area.Reads as empty-area-reads
 use Rattle.slave.proofs.error_area.Reads as error-area-reads
 use Rattle.slave.proofs.first_place.Reads as first-place-reads
 use Rattle.slave.proofs.perform_on.Reads as perform-on-reads
 use Rattle.slave.proofs.read_record.Reads as read-record-reads
 use Rattle.table.proofs.find.Reads as find-reads
-use Rattle.task.proofs.full_number.Reads as full-number-reads
+use Rattle.page.proofs.full_number.Reads as full-number-reads
 use Rattle.task.proofs.task_of.Reads as task-of-reads
 
 busy : (c : tie.Else1) → idle (taskOf (c .before .before .before .before .args .area .pke / 4096) .act) ≡ false

@@ -7,7 +7,7 @@ use Rattle.slave.proofs.read_command.Statement.{statement}
 use Rattle.slave.proofs.read_command.Tie as tie
 use Rattle.slave.proofs.read_command.Reads as reads
 use Rattle.slave.proofs.read_command.Lts as lts
-use Rattle.net.proofs.read_area.Reads as read-area-reads
+use Rattle.area.proofs.read_area.Reads as read-area-reads
 
 read-area-requires : tie.Need-read-area-requires
 read-area-requires c κs = search needs

@@ -6,7 +6,7 @@ use Rattle.slave.proofs.run_act.Statement.{statement}
 use Rattle.slave.proofs.run_act.Tie as tie
 use Rattle.slave.proofs.run_act.Reads as reads
 use Rattle.slave.proofs.run_act.Lts as lts
-use Rattle.net.proofs.empty_area.Reads as empty-area-reads
+use Rattle.area.proofs.empty_area.Reads as empty-area-reads
 use Rattle.slave.proofs.count_elements.Reads as count-elements-reads
 use Rattle.slave.proofs.error_area.Reads as error-area-reads
 use Rattle.slave.proofs.pick_reply_id.Reads as pick-reply-id-reads

@@ -7,8 +7,8 @@ use Rattle.slave.proofs.run_task.Statement.{statement}
 use Rattle.slave.proofs.run_task.Tie as tie
 use Rattle.slave.proofs.run_task.Reads as reads
 use Rattle.slave.proofs.run_task.Lts as lts
-use Rattle.net.proofs.empty_area.Reads as empty-area-reads
-use Rattle.net.proofs.read_area.Reads as read-area-reads
+use Rattle.area.proofs.empty_area.Reads as empty-area-reads
+use Rattle.area.proofs.read_area.Reads as read-area-reads
 use Rattle.slave.proofs.perform.Reads as perform-reads
 
 empty-area-requires : tie.Need-empty-area-requires

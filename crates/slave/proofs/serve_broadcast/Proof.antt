@@ -15,7 +15,7 @@ use Rattle.slave.proofs.serve_broadcast.Reads as reads
 use Rattle.slave.proofs.serve_broadcast.Lts as lts
 use Rattle.broadcast.proofs.command_control.Reads as command-control-reads
 use Rattle.broadcast.proofs.is_void.Reads as is-void-reads
-use Rattle.net.proofs.read_process.Reads as read-process-reads
+use Rattle.area.proofs.read_process.Reads as read-process-reads
 use Rattle.slave.proofs.read_command.Reads as read-command-reads
 use Rattle.slave.proofs.refuse.Reads as refuse-reads
 use Rattle.setup.proofs.net_bytes.Reads as net-bytes-reads

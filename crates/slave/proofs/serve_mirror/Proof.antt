@@ -5,7 +5,7 @@ use Prim.Native.Nat.{ℕ}
 use borrow.Author.Tests.{eq-eqb}
 use Rattle.store.specs.Placed.{Placed}
 use Rattle.store.proofs.StoreLaws.{put-front}
-use Rattle.slave.specs.declared.Answer.the-variants.{Mirrored}
+use Rattle.answers.specs.declared.Answer.the-variants.{Mirrored}
 use Rattle.slave.specs.Slave.{mirrorCase}
 use borrow.Author.Needs.{needs}
 use Rattle.slave.proofs.serve_mirror.Statement.{statement}

@@ -10,7 +10,7 @@ use Rattle.slave.proofs.take_control.Statement.{statement}
 use Rattle.slave.proofs.take_control.Tie as tie
 use Rattle.slave.proofs.take_control.Reads as reads
 use Rattle.slave.proofs.take_control.Lts as lts
-use Rattle.net.proofs.read_process.Reads as read-process-reads
+use Rattle.area.proofs.read_process.Reads as read-process-reads
 
 read-process-requires : tie.Need-read-process-requires
 read-process-requires c κs = search needs

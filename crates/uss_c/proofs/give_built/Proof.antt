@@ -4,7 +4,7 @@ use Rattle.uss_c.proofs.give_built.Statement.{statement}
 use Rattle.uss_c.proofs.give_built.Tie as tie
 use Rattle.uss_c.proofs.give_built.Reads as reads
 use Rattle.uss_c.proofs.give_built.Lts as lts
-use Rattle.uss_c.proofs.number_built.Reads as number-built-reads
+use Rattle.answers.proofs.number_built.Reads as number-built-reads
 
 number-built-requires : tie.Need-number-built-requires
 number-built-requires c κs = search needs

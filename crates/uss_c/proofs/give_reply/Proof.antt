@@ -1,15 +1,15 @@
 -- `uss_c::give_reply` meets its contract: the answer as numbers, and the process words. Assumes nothing.
 use mathlib.Core.Path.{sym, ap, _∙_}
-use Rattle.reply.specs.Reply.{readNumber, readId, readValue}
 use borrow.Author.Needs.{needs}
 use Rattle.uss_c.proofs.give_reply.Statement.{statement}
 use Rattle.uss_c.proofs.give_reply.Tie as tie
 use Rattle.uss_c.proofs.give_reply.Reads as reads
 use Rattle.uss_c.proofs.give_reply.Lts as lts
-use Rattle.uss_c.proofs.give_content_id.Reads as give-content-id-reads
-use Rattle.uss_c.proofs.give_content_value.Reads as give-content-value-reads
+use Rattle.answers.proofs.id_of_content.Reads as give-content-id-reads
+use Rattle.answers.proofs.value_of_content.Reads as give-content-value-reads
 use Rattle.uss_c.proofs.give_words.Reads as give-words-reads
-use Rattle.uss_c.proofs.number_read_fault.Reads as number-read-fault-reads
+use Rattle.answers.proofs.number_read_fault.Reads as number-read-fault-reads
+use Rattle.answers.specs.ReadNumbers.{readNumber, readId, readValue}
 
 give-words-requires : tie.Need-give-words-requires
 give-words-requires c κs = search needs

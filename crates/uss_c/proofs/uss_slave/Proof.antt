@@ -8,7 +8,7 @@ use Rattle.uss_c.proofs.uss_slave.Reads as reads
 use Rattle.uss_c.proofs.uss_slave.Lts as lts
 use Rattle.slave.proofs.serve.Reads as serve-reads
 use Rattle.uss_c.proofs.give_words.Reads as give-words-reads
-use Rattle.uss_c.proofs.number_answer.Reads as number-answer-reads
+use Rattle.answers.proofs.number_answer.Reads as number-answer-reads
 use Rattle.uss_c.proofs.take_setup.Reads as take-setup-reads
 use Rattle.uss_c.proofs.take_words.Reads as take-words-reads
 

@@ -1,0 +1,2 @@
+-- Laws of areas that are read.
+pub mod AreaLaws

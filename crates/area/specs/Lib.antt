@@ -1,0 +1,2 @@
+-- The areas of a telegram, as they are read.
+pub mod Read

@@ -1,0 +1,2 @@
+-- The XOR of a list of bytes.
+pub mod Bcc

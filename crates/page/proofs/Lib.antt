@@ -1,0 +1,2 @@
+-- Laws of pages.
+pub mod PageLaws

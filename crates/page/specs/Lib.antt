@@ -1,0 +1,2 @@
+-- Pages, as document 01 has them.
+pub mod Page
