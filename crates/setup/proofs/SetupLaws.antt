@@ -1,14 +1,14 @@
--- What a set-up that may be used is, both ways. Assumes nothing.
-use mathlib.Core.Path.{_≡_, refl, sym}
+-- What a set-up that may be used is, both ways, and what lines 16 and 17 say. Assumes nothing.
+use mathlib.Core.Path.{_≡_, refl, sym, ap}
 use mathlib.Core.Logic.{_⊎_, inl, inr}
 use mathlib.Core.Bool.{Bool, true, false, not, _&&_, _||_, false≢true}
-use Prim.Native.Nat.{ℕ, _+_, _<_, _≤_}
+use Prim.Native.Nat.{ℕ, _+_, _*_, _<_, _≤_}
 use native.Mathlib.Omega.{arith}
 use lib.Dec.{ltb, eqb}
-use borrow.Author.Tests.{le-ltb, ne-eqb, ltb-false, eqb-true, eqb-false, not-true, not-false}
+use borrow.Author.Tests.{le-ltb, eq-eqb, ne-eqb, ltb-false, eqb-true, eqb-false, not-true, not-false}
 use Rattle.rows.proofs.BoolLaws.{or-left, or-right}
 use Rattle.setup.specs.declared.Setup.{Setup}
-use Rattle.setup.specs.SetupRules.{setupBad, setupOk}
+use Rattle.setup.specs.SetupRules.{setupBad, setupOk, netBytes, areaCount, otherNode, otherLength}
 
 -- an area of three or four words
 abbrev pub Wide : ℕ → Type 0
@@ -93,3 +93,33 @@ wide-between n (inr e) = (omega arith, omega arith)
 
 pub area-words : (s : Setup) → Configured s → (s .pkw ≡ 0 → ⊥) → (3 ≤ s .pkw) × (s .pkw ≤ 4)
 area-words s c h = wide-between (s .pkw) (area-wide s c h)
+
+-- lines 16 and 17, each as its Bool and as an equation
+
+pub own-node : (s : Setup) (node : ℕ) → otherNode s node ≡ false → node ≡ s .node
+own-node s node e = eqb-true node (s .node) (not-false (eqb node (s .node)) e)
+
+pub node-own : (s : Setup) (node : ℕ) → node ≡ s .node → otherNode s node ≡ false
+node-own s node e = ap not (eq-eqb node (s .node) e)
+
+pub not-own-node : (s : Setup) (node : ℕ) → otherNode s node ≡ true → node ≡ s .node → ⊥
+not-own-node s node e = eqb-false node (s .node) (not-true (eqb node (s .node)) e)
+
+pub node-other : (s : Setup) (node : ℕ) → (node ≡ s .node → ⊥) → otherNode s node ≡ true
+node-other s node h = ap not (ne-eqb node (s .node) h)
+
+pub own-length : (s : Setup) (n : ℕ) → otherLength s n ≡ false → n ≡ netBytes s
+own-length s n e = eqb-true n (netBytes s) (not-false (eqb n (netBytes s)) e)
+
+pub length-own : (s : Setup) (n : ℕ) → n ≡ netBytes s → otherLength s n ≡ false
+length-own s n e = ap not (eq-eqb n (netBytes s) e)
+
+pub not-own-length : (s : Setup) (n : ℕ) → otherLength s n ≡ true → n ≡ netBytes s → ⊥
+not-own-length s n e = eqb-false n (netBytes s) (not-true (eqb n (netBytes s)) e)
+
+pub length-other : (s : Setup) (n : ℕ) → (n ≡ netBytes s → ⊥) → otherLength s n ≡ true
+length-other s n h = ap not (ne-eqb n (netBytes s) h)
+
+-- the words of a telegram of the set-up's length
+pub own-words : (s : Setup) (n : ℕ) → otherLength s n ≡ false → n ≡ (areaCount s n + s .pzd) * 2
+own-words s n e = eqb-true n ((areaCount s n + s .pzd) * 2) (not-false (eqb n ((areaCount s n + s .pzd) * 2)) e)

@@ -1,7 +1,10 @@
--- Which set-ups may be used (document 01, Answer numbers: 20, and 30 "set-up as 20").
+-- Which set-ups may be used (document 01, Answer numbers: 20, and 30 "set-up as 20"), and which telegrams are for one (16 and 17).
 --     setupBad s      node over 31, PKW not 0, 3, 4, PZD over 4, or both 0
 --     setupOk s       none of these
 --     netBytes s      the net bytes of a telegram of the set-up: 2 × (PKW + PZD)
+--     areaCount s n   how many words the parameter area of a telegram with n net bytes has: the PKW setting
+--     otherNode s node    line 16: another node's
+--     otherLength s n     line 17: n not 2 × (PKW + PZD)
 use Prim.Native.Nat.{ℕ, _+_, _*_}
 use mathlib.Core.Bool.{Bool, not, _&&_, _||_}
 use lib.Dec.{ltb, eqb}
@@ -19,3 +22,15 @@ setupOk s = not (setupBad s)
 
 abbrev pub netBytes : Setup → ℕ
 netBytes s = (s .pkw + s .pzd) * 2
+
+-- the setting says how many words the parameter area has, whatever n
+abbrev pub areaCount : Setup → ℕ → ℕ
+areaCount s n = s .pkw
+
+-- line 16, "other node"
+abbrev pub otherNode : Setup → ℕ → Bool
+otherNode s node = not (eqb node (s .node))
+
+-- line 17, "n not 2 × (PKW + PZD)"
+abbrev pub otherLength : Setup → ℕ → Bool
+otherLength s n = not (eqb n ((areaCount s n + s .pzd) * 2))

@@ -1,7 +1,8 @@
 // The set-up of a slave or a master: its node, its parameter words and its process words (document 01, answers 20 and 30).
 ghost use mathlib.Core.Path.{_≡_};
-ghost use Rattle.setup.specs.SetupRules.{setupOk, netBytes};
+ghost use Rattle.setup.specs.SetupRules.{setupOk, areaCount, otherLength};
 
+#[repr(C)]
 pub struct Setup {
     pub node: u8,
     pub pkw: u8,
@@ -25,9 +26,16 @@ pub fn setup_ok(setup: Setup) -> bool
     setup.pzd <= 4
 }
 
-// The net bytes of a telegram of the set-up.
-pub fn net_bytes(setup: Setup) -> usize
-    ensures { λ r. ⌜ r ≡ netBytes setup ⌝ }
+// How many words the parameter area of a telegram with n net bytes has: the setting, whatever n.
+pub fn area_count(setup: Setup, n: usize) -> u8
+    ensures { λ r. ⌜ r ≡ areaCount setup n ⌝ }
 {
-    ((setup.pkw as usize) + (setup.pzd as usize)) * 2
+    setup.pkw
+}
+
+// Whether n is not the net length of a telegram of the set-up (answer 17).
+pub fn is_other_length(setup: Setup, n: usize) -> bool
+    ensures { λ r. ⌜ r ≡ otherLength setup n ⌝ }
+{
+    n != ((area_count(setup, n) as usize) + (setup.pzd as usize)) * 2
 }
