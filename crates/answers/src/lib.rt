@@ -158,7 +158,7 @@ pub fn number_read_fault(fault: ReadFault) -> u32
 }
 
 // The reply ID of what a reply holds.
-pub fn id_of_content(content: Content) -> u32
+pub fn content_id(content: Content) -> u32
     ensures { λ r. ⌜ r ≡ contentId content ⌝ }
 {
     match content {
@@ -170,7 +170,7 @@ pub fn id_of_content(content: Content) -> u32
 }
 
 // The value or error number of what a reply holds.
-pub fn value_of_content(content: Content) -> u32
+pub fn content_value(content: Content) -> u32
     ensures { λ r. ⌜ r ≡ contentValue content ⌝ }
 {
     match content {
