@@ -10,7 +10,6 @@ use lib.Dec.{eqb, leb, ltb}
 use Rattle.rows.specs.Rows.{firstOf, Chosen}
 use Rattle.rows.proofs.RowsLaws.{first-chosen, chosen-first}
 use Rattle.rows.proofs.BoolLaws.{and-left, and-right}
-use Rattle.setup.specs.declared.Setup.{Setup}
 use Rattle.setup.specs.SetupRules.{setupOk}
 use Rattle.table.specs.Records.{entries, countsOf}
 use Rattle.answers.specs.declared.OpeningFault.{OpeningFault}
@@ -18,6 +17,7 @@ use Rattle.answers.specs.declared.OpeningFault.the-variants.{BadSetup, BadTable
 use Rattle.opening.specs.declared.Opening.{Opening}
 use Rattle.opening.specs.declared.Opening.the-variants.{Passed, Closed}
 use Rattle.opening.specs.Rules.{risingFrom, eachOk, runsOk, tableOk, valuesOk}
+use Rattle.opening.specs.Lent.{Lent}
 use Rattle.opening.specs.Answers.{openingRows, openingOf, contentOf}
 
 -- two tests refuse: so do they with a third after them
@@ -34,44 +34,53 @@ two-pass false b d e = let z : _≡_ {A = ℕ} 0 1 = cc in absurd (omega arith)
 two-pass true false d e = let z : _≡_ {A = ℕ} 0 1 = cc in absurd (omega arith)
 two-pass true true d e = refl
 
-module _ (s : Setup) (t vs : List ℕ) (room : ℕ) where
-  pub open-setup : setupOk s ≡ false → openingOf s t vs room ≡ Closed BadSetup
+module _ (l : Lent) where
+  -- the Bools of its lines
+  abbrev tableGood : Bool
+  tableGood = tableOk (l .table)
+
+  abbrev valuesGood : Bool
+  valuesGood = valuesOk (l .table) (l .memory .values)
+
+  abbrev roomShort : Bool
+  roomShort = ltb (l .room) 256
+
+  pub open-setup : setupOk (l .setup) ≡ false → openingOf l ≡ Closed BadSetup
   unfolding openingOf
   open-setup a = rw a
 
-  pub open-content : (f : OpeningFault) → setupOk s ≡ true → contentOf t vs ≡ Closed f → openingOf s t vs room ≡ Closed f
+  pub open-content : (f : OpeningFault) → setupOk (l .setup) ≡ true → contentOf (l .table) (l .memory .values) ≡ Closed f → openingOf l ≡ Closed f
   unfolding openingOf contentOf
-  open-content f a e = rw a (two-refuse (tableOk t) (valuesOk t vs) (ltb room 256) f e)
+  open-content f a e = rw a (two-refuse tableGood valuesGood roomShort f e)
 
-  pub open-buffer : setupOk s ≡ true → contentOf t vs ≡ Passed → room < 256 → openingOf s t vs room ≡ Closed ShortBuffer
+  pub open-buffer : setupOk (l .setup) ≡ true → contentOf (l .table) (l .memory .values) ≡ Passed → l .room < 256 → openingOf l ≡ Closed ShortBuffer
   unfolding openingOf contentOf
-  open-buffer a e h = rw a (two-pass (tableOk t) (valuesOk t vs) (ltb room 256) e ∙ rw (lt-ltb room 256 h))
+  open-buffer a e h = rw a (two-pass tableGood valuesGood roomShort e ∙ rw (lt-ltb (l .room) 256 h))
 
-  pub open-passed : setupOk s ≡ true → contentOf t vs ≡ Passed → 256 ≤ room → openingOf s t vs room ≡ Passed
+  pub open-passed : setupOk (l .setup) ≡ true → contentOf (l .table) (l .memory .values) ≡ Passed → 256 ≤ l .room → openingOf l ≡ Passed
   unfolding openingOf contentOf
-  open-passed a e h = rw a (two-pass (tableOk t) (valuesOk t vs) (ltb room 256) e ∙ rw (le-ltb room 256 h))
+  open-passed a e h = rw a (two-pass tableGood valuesGood roomShort e ∙ rw (le-ltb (l .room) 256 h))
 
--- a number is given exactly when its line holds and no earlier one does
-module _ (s : Setup) (t vs : List ℕ) (room : ℕ) where
-  pub opening-chosen : Chosen (openingRows s t vs room) Passed (openingOf s t vs room)
+  -- a number is given exactly when its line holds and no earlier one does
+  pub opening-chosen : Chosen (openingRows l) Passed (openingOf l)
   unfolding openingOf
-  opening-chosen = first-chosen (openingRows s t vs room) Passed
+  opening-chosen = first-chosen (openingRows l) Passed
 
-  pub chosen-opening : (r : Opening) → Chosen (openingRows s t vs room) Passed r → r ≡ openingOf s t vs room
+  pub chosen-opening : (r : Opening) → Chosen (openingRows l) Passed r → r ≡ openingOf l
   unfolding openingOf
-  chosen-opening r c = chosen-first (openingRows s t vs room) Passed r c
+  chosen-opening r c = chosen-first (openingRows l) Passed r c
 
--- the facts of a set-up, a table, values and a buffer that passed
-pub record Opened (s : Setup) (t vs : List ℕ) (room : ℕ) : Type 0 where
-  pub setup-good : setupOk s ≡ true
-  pub whole : length t % 12 ≡ 0
-  pub short : length t ≤ 6144
-  pub rising : risingFrom 0 (entries t) ≡ true
-  pub ruled : eachOk (entries t) ≡ true
-  pub places : countsOf (entries t) ≤ 4096
-  pub count : countsOf (entries t) ≡ length vs
-  pub limits : runsOk (entries t) vs 0 ≡ true
-  pub buffer : 256 ≤ room
+-- the facts of what is lent, where it passed
+pub record Opened (l : Lent) : Type 0 where
+  pub setup-good : setupOk (l .setup) ≡ true
+  pub whole : length (l .table) % 12 ≡ 0
+  pub short : length (l .table) ≤ 6144
+  pub rising : risingFrom 0 (entries (l .table)) ≡ true
+  pub ruled : eachOk (entries (l .table)) ≡ true
+  pub places : countsOf (entries (l .table)) ≤ 4096
+  pub count : countsOf (entries (l .table)) ≡ length (l .memory .values)
+  pub limits : runsOk (entries (l .table)) (l .memory .values) 0 ≡ true
+  pub buffer : 256 ≤ l .room
 
 -- a passing check fails each of its rows
 all-passed : (a b c d : Bool) → firstOf ((not a, Closed BadSetup) ∷ (not b, Closed BadTable) ∷ (not c, Closed BadValues) ∷ (d, Closed ShortBuffer) ∷ []) Passed ≡ Passed
@@ -82,11 +91,13 @@ all-passed true false c d e = let z : _≡_ {A = ℕ} 0 1 = cc in absurd (omega 
 all-passed true true false d e = let z : _≡_ {A = ℕ} 0 1 = cc in absurd (omega arith)
 all-passed true true true true e = let z : _≡_ {A = ℕ} 0 1 = cc in absurd (omega arith)
 
-module _ (s : Setup) (t vs : List ℕ) (room : ℕ) where
-  pub passed-opened : openingOf s t vs room ≡ Passed → Opened s t vs room
+module _ (l : Lent) where
+  pub passed-opened : openingOf l ≡ Passed → Opened l
   unfolding openingOf
   passed-opened e =
-      let p = all-passed (setupOk s) (tableOk t) (valuesOk t vs) (ltb room 256) e in
+      let t = l .table in
+      let vs = l .memory .values in
+      let p = all-passed (setupOk (l .setup)) (tableOk t) (valuesOk t vs) (ltb (l .room) 256) e in
       let a = eqb (length t % 12) 0 in
       let b = leb (length t / 12) 512 in
       let r = risingFrom 0 (entries t) in
@@ -108,11 +119,13 @@ module _ (s : Setup) (t vs : List ℕ) (room : ℕ) where
         places = leb-true (countsOf (entries t)) 4096 (and-right (a && b && r && o) n (p .1));
         count = eqb-true (countsOf (entries t)) (length vs) (and-left q v (p .2));
         limits = and-right q v (p .2);
-        buffer = ltb-false room 256 (p .3);
+        buffer = ltb-false (l .room) 256 (p .3);
       }
 
-  pub opened-passes : Opened s t vs room → openingOf s t vs room ≡ Passed
+  pub opened-passes : Opened l → openingOf l ≡ Passed
   unfolding openingOf
   opened-passes o =
+      let t = l .table in
+      let vs = l .memory .values in
       let f = le-leb (length t / 12) 512 (omega arith) in
-      rw (o .setup-good, eq-eqb (length t % 12) 0 (o .whole), f, o .rising, o .ruled, le-leb _ _ (o .places), eq-eqb (countsOf (entries t)) (length vs) (o .count), o .limits, le-ltb room 256 (o .buffer))
+      rw (o .setup-good, eq-eqb (length t % 12) 0 (o .whole), f, o .rising, o .ruled, le-leb _ _ (o .places), eq-eqb (countsOf (entries t)) (length vs) (o .count), o .limits, le-ltb (l .room) 256 (o .buffer))

@@ -10,7 +10,6 @@ use borrow.Author.Tests.{leb-true}
 use lib.Dec.{leb}
 use lib.ListN.{length, getD}
 use Rattle.rows.proofs.BoolLaws.{and-left, and-right}
-use Rattle.setup.specs.declared.Setup.{Setup}
 use Rattle.entry.specs.Fields.{countOf}
 use Rattle.entry.specs.Limits.{isWithin, entryOk}
 use Rattle.entry.specs.declared.Entry.{Entry}
@@ -19,6 +18,7 @@ use Rattle.table.specs.declared.Found.the-variants.{At}
 use Rattle.table.proofs.RecordsLaws.{found-below, find-here, find-on}
 use Rattle.opening.specs.declared.Opening.the-variants.{Passed}
 use Rattle.opening.specs.Rules.{risingFrom, eachOk, runOk, runsOk}
+use Rattle.opening.specs.Lent.{Lent}
 use Rattle.opening.specs.Answers.{openingOf}
 use Rattle.opening.proofs.AnswersLaws.{passed-opened}
 use Rattle.opening.proofs.KeptLaws.{place-below}
@@ -57,17 +57,19 @@ runs-at t vs (suc m) (suc n) j p i h a b =
     rw (s, z) (runs-at t vs m n (suc j) (p + countOf e) i (and-right (runOk e vs (countOf e) p) (runsOk (entriesFrom t n (suc j)) vs (p + countOf e)) h) (omega arith) (rw s at b))
 
 -- the facts of a record of a table that passed
-pub record InTable (t vs : List ℕ) (k : ℕ) : Type 0 where
-  pub below : k < length t / 12
+pub record InTable (l : Lent) (k : ℕ) : Type 0 where
+  pub below : k < length (l .table) / 12
   pub few : k < 512
-  pub ok : entryOk (entryAt t k) ≡ true
-  pub place : (i : ℕ) → i < countOf (entryAt t k) → firstPlace t k + i < length vs
-  pub value : (i : ℕ) → i < countOf (entryAt t k) → isWithin (entryAt t k) (getD vs (firstPlace t k + i) 0) ≡ true
+  pub ok : entryOk (entryAt (l .table) k) ≡ true
+  pub place : (i : ℕ) → i < countOf (entryAt (l .table) k) → firstPlace (l .table) k + i < length (l .memory .values)
+  pub value : (i : ℕ) → i < countOf (entryAt (l .table) k) → isWithin (entryAt (l .table) k) (getD (l .memory .values) (firstPlace (l .table) k + i) 0) ≡ true
 
-pub passed-in-table : (s : Setup) (t vs : List ℕ) (room k : ℕ) → openingOf s t vs room ≡ Passed → k < length t / 12 → InTable t vs k
+pub passed-in-table : (l : Lent) (k : ℕ) → openingOf l ≡ Passed → k < length (l .table) / 12 → InTable l k
 unfolding entries
-passed-in-table s t vs room k e b =
-    let o = passed-opened s t vs room e in
+passed-in-table l k e b =
+    let t = l .table in
+    let vs = l .memory .values in
+    let o = passed-opened l e in
     let n = length t / 12 in
     let z : 0 + k ≡ k = omega arith in
     record {
@@ -79,11 +81,11 @@ passed-in-table s t vs room k e b =
     }
 
 -- of a record that was found by its number
-pub found-in-table : (s : Setup) (t vs : List ℕ) (room number k : ℕ) → openingOf s t vs room ≡ Passed → findIn t number ≡ At k → InTable t vs k
+pub found-in-table : (l : Lent) (number k : ℕ) → openingOf l ≡ Passed → findIn (l .table) number ≡ At k → InTable l k
 unfolding entries
-found-in-table s t vs room number k e f =
-    let b = found-below number t (length t / 12) 0 k f in
-    passed-in-table s t vs room k e (omega arith)
+found-in-table l number k e f =
+    let b = found-below number (l .table) (length (l .table) / 12) 0 k f in
+    passed-in-table l k e (omega arith)
 
 pub found-number : (t : List ℕ) (number k : ℕ) → findIn t number ≡ At k → entryAt t k .number ≡ number
 unfolding entries
@@ -121,7 +123,6 @@ find-rising t (suc n) j (suc m) least h b =
     rw s (on ∙ rw add-one (find-rising t n (suc j) m (e + 1) q (omega arith)))
 
 -- of a table that passed, each record is found by its number
-pub record-found : (s : Setup) (t vs : List ℕ) (room k : ℕ) → openingOf s t vs room ≡ Passed → k < length t / 12
-    → findIn t (entryAt t k .number) ≡ At k
+pub record-found : (l : Lent) (k : ℕ) → openingOf l ≡ Passed → k < length (l .table) / 12 → findIn (l .table) (entryAt (l .table) k .number) ≡ At k
 unfolding entries
-record-found s t vs room k e b = simp zero-add at (find-rising t (length t / 12) 0 k 0 (passed-opened s t vs room e .rising) b)
+record-found l k e b = simp zero-add at (find-rising (l .table) (length (l .table) / 12) 0 k 0 (passed-opened l e .rising) b)

@@ -9,7 +9,6 @@ use native.Mathlib.Nat.{add-zero}
 use lib.ListN.{length, getD, set, length-set}
 use lib.Seq.{getD-set-same, getD-set-other}
 use Rattle.rows.proofs.BoolLaws.{and-left, and-right, and-both}
-use Rattle.setup.specs.declared.Setup.{Setup}
 use Rattle.entry.specs.declared.Entry.{Entry}
 use Rattle.entry.specs.Fields.{countOf}
 use Rattle.entry.specs.Limits.{isWithin}
@@ -17,6 +16,7 @@ use Rattle.table.specs.Records.{entryAt, entriesFrom, entries, countsOf, firstP
 use Rattle.table.proofs.RecordsLaws.{places-fit}
 use Rattle.opening.specs.declared.Opening.the-variants.{Passed}
 use Rattle.opening.specs.Rules.{runOk, runsOk}
+use Rattle.opening.specs.Lent.{Lent, stored, lending}
 use Rattle.opening.specs.Answers.{openingOf}
 use Rattle.opening.proofs.AnswersLaws.{passed-opened, opened-passes}
 
@@ -91,11 +91,14 @@ module _ (t vs : List ℕ) (k i : ℕ) (below : k < length t / 12) (element : i 
       runs-set vs (firstPlace t k + i) v place-below (entriesFrom t n 0) 0 ok h
 
 -- 20 to 23 stay passed after a change of one place to a value within its record's limits
-pub change-keeps-opening : (s : Setup) (t vs : List ℕ) (room k i v : ℕ) → openingOf s t vs room ≡ Passed → k < length t / 12 → i < countOf (entryAt t k)
-    → isWithin (entryAt t k) v ≡ true → openingOf s t (set vs (firstPlace t k + i) v) room ≡ Passed
-change-keeps-opening s t vs room k i v e a b c =
-    let o = passed-opened s t vs room e in
-    opened-passes s t (set vs (firstPlace t k + i) v) room
+pub change-keeps-opening : (l : Lent) (k i v : ℕ) → openingOf l ≡ Passed → k < length (l .table) / 12 → i < countOf (entryAt (l .table) k)
+    → isWithin (entryAt (l .table) k) v ≡ true → openingOf (lending l (stored (l .memory) (firstPlace (l .table) k + i) v)) ≡ Passed
+change-keeps-opening l k i v e a b c =
+    let t = l .table in
+    let vs = l .memory .values in
+    let o = passed-opened l e in
+    opened-passes
+    (lending l (stored (l .memory) (firstPlace t k + i) v))
     (record {
       setup-good = o .setup-good;
       whole = o .whole;

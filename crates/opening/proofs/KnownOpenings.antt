@@ -6,10 +6,10 @@ use Rattle.setup.specs.SetupRules.{setupOk}
 use Rattle.entry.specs.Fields.{entryOf, countOf}
 use Rattle.entry.specs.Limits.{signedOf, numberOf, atMost, fitsIn, isWithin, entryOk}
 use Rattle.table.specs.Records.{entryAt, entriesFrom, entries, countsOf}
-use Rattle.opening.specs.declared.Opening.{Opening}
 use Rattle.opening.specs.declared.Opening.the-variants.{Passed, Closed}
 use Rattle.answers.specs.declared.OpeningFault.the-variants.{BadSetup, BadTable, BadValues, ShortBuffer}
 use Rattle.opening.specs.Rules.{risingFrom, eachOk, runOk, runsOk}
+use Rattle.opening.specs.Lent.{Lent}
 use Rattle.opening.specs.Answers.{openingOf}
 
 -- 1000: two words, unsigned, 0 to 10; 1082: a signed word, -100 to 100; 2000: a signed double, -1 to 1
@@ -21,26 +21,17 @@ threeRecords =
     ∷ []
 
 -- a node, a table, its values and a buffer; four parameter words, two process words
-pub record Given : Type 0 where
-  pub node : ℕ
-  pub table : List ℕ
-  pub values : List ℕ
-  pub room : ℕ
+abbrev lentOf : ℕ → List ℕ → List ℕ → ℕ → Lent
+lentOf n t vs room = record { setup = record { node = n; pkw = 4; pzd = 2 }; table = t; memory = record { values = vs }; room = room }
 
-abbrev givenOf : ℕ → List ℕ → List ℕ → ℕ → Given
-givenOf n t vs room = record { node = n; table = t; values = vs; room = room }
-
-abbrev openingFor : Given → Opening
-openingFor g = openingOf (record { node = g .node; pkw = 4; pzd = 2 }) (g .table) (g .values) (g .room)
-
-pub known-openings : map openingFor
-    (givenOf 31 threeRecords (0 ∷ 10 ∷ 0xff9c ∷ 0xffff_ffff ∷ []) 256
-    ∷ givenOf 32 [] (1 ∷ []) 0
-    ∷ givenOf 31 (0x07 ∷ threeRecords) (0 ∷ []) 0
-    ∷ givenOf 31 threeRecords (0 ∷ 10 ∷ 0xff9b ∷ 0 ∷ []) 0
-    ∷ givenOf 31 threeRecords (0 ∷ 10 ∷ 0xff9c ∷ []) 0
-    ∷ givenOf 31 threeRecords (0 ∷ 10 ∷ 100 ∷ 1 ∷ []) 255
-    ∷ givenOf 31 [] [] 256
+pub known-openings : map openingOf
+    (lentOf 31 threeRecords (0 ∷ 10 ∷ 0xff9c ∷ 0xffff_ffff ∷ []) 256
+    ∷ lentOf 32 [] (1 ∷ []) 0
+    ∷ lentOf 31 (0x07 ∷ threeRecords) (0 ∷ []) 0
+    ∷ lentOf 31 threeRecords (0 ∷ 10 ∷ 0xff9b ∷ 0 ∷ []) 0
+    ∷ lentOf 31 threeRecords (0 ∷ 10 ∷ 0xff9c ∷ []) 0
+    ∷ lentOf 31 threeRecords (0 ∷ 10 ∷ 100 ∷ 1 ∷ []) 255
+    ∷ lentOf 31 [] [] 256
     ∷ [])
     ≡ Passed ∷ Closed BadSetup ∷ Closed BadTable ∷ Closed BadValues ∷ Closed BadValues ∷ Closed ShortBuffer ∷ Passed ∷ []
 unfolding openingOf setupOk entryOf countOf signedOf numberOf atMost fitsIn isWithin entryOk entryAt entriesFrom entries countsOf risingFrom eachOk runOk runsOk

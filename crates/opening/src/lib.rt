@@ -214,7 +214,7 @@ fn check_content(t: &[u8], values: &[u32]) -> Opening
 
 // The opening check. `room` is the length of the reply buffer.
 pub fn open(setup: Setup, table: &[u8], values: &[u32], room: usize) -> Opening
-    ensures { λ r. ⌜ r ≡ openingOf setup (now (table .entry)) (now (values .entry)) room ⌝ }
+    ensures { λ r. ⌜ r ≡ openingOf (record { setup = setup; table = now (table .entry); memory = record { values = now (values .entry) }; room = room }) ⌝ }
 {
     if !setup_ok(setup) {
         return Opening::Closed(OpeningFault::BadSetup);

@@ -16,12 +16,14 @@ mul-if1 c = search needs
 
 returns : tie.Need-returns
 returns c =
-    let a = c .before .before .before .args in
+    let start : tie.Start = search in
+    let a = start .args in
     sym (content-table (now (a .t)) (now (a .values)) (long-table (now (a .t)) (omega arith)))
 
 returns-2 : tie.Need-returns-2
 returns-2 c =
-    let a = c .before .before .before .before .args in
+    let start : tie.Start = search in
+    let a = start .args in
     sym (content-table (now (a .t)) (now (a .values)) (part-table (now (a .t)) (c .if2 .taken)))
 
 in-order-requires : tie.Need-in-order-requires
@@ -29,8 +31,9 @@ in-order-requires c κs = search needs
 
 returns-3 : tie.Need-returns-3
 returns-3 c =
-    let o = c .before in
-    let a = o .before .before .before .before .before .args in
+    let o : tie.After-in-order = search in
+    let start : tie.Start = search in
+    let a = start .args in
     sym (content-passed (now (a .t)) (now (a .values)) (sym (o .in-order .ensures) ∙ c .if3 .taken))
 
 table-ok-requires : tie.Need-table-ok-requires
@@ -38,15 +41,18 @@ table-ok-requires c κs = search needs
 
 returns-4 : tie.Need-returns-4
 returns-4 c =
-    let k = c .before in
-    let o = k .before .before in
-    let a = o .before .before .before .before .before .args in
-    sym (content-values (now (a .t)) (now (a .values)) (sym (o .in-order .ensures) ∙ k .before .if3 .left) (sym (k .table-ok .ensures) ∙ c .if4 .taken))
+    let k : tie.After-table-ok = search in
+    let else3 : tie.Else3 = search in
+    let o : tie.After-in-order = search in
+    let start : tie.Start = search in
+    let a = start .args in
+    sym (content-values (now (a .t)) (now (a .values)) (sym (o .in-order .ensures) ∙ else3 .if3 .left) (sym (k .table-ok .ensures) ∙ c .if4 .taken))
 
 returns-5 : tie.Need-returns-5
 returns-5 c =
-    let k = c .before in
-    let a = k .before .before .before .before .before .before .before .args in
+    let k : tie.After-table-ok = search in
+    let start : tie.Start = search in
+    let a = start .args in
     sym (content-table (now (a .t)) (now (a .values)) (sym (k .table-ok .ensures) ∙ c .if4 .left))
 
 pub check-content-spec : {M : Type 1} → statement M

@@ -34,9 +34,10 @@ value-holds-requires c κs = search needs
 
 returns : tie.Need-returns
 returns c =
-    let t = c .before in
-    let d = t .before .before in
-    let a = d .before .before .args in
+    let t : tie.Then1 = search in
+    let d : tie.After-entry-of = search in
+    let start : tie.Start = search in
+    let a = start .args in
     let e = d .entry-of .result in
     let none : e .elements ≡ 0 = omega (arith, low-bits d) in
     let clear : e .spare ≡ 0 = omega (arith, low-bits d) in
@@ -44,15 +45,17 @@ returns c =
 
 returns-2 : tie.Need-returns-2
 returns-2 c =
-    let d = c .before .before .before .before in
-    let a = d .before .before .args in
+    let d : tie.After-entry-of = search in
+    let start : tie.Start = search in
+    let a = start .args in
     let e = d .entry-of .result in
     rw (← (d .entry-of .ensures)) (fine-broken e (now (a .values)) (a .place) _ (spare-set e (c .if2 .taken)))
 
 returns-3 : tie.Need-returns-3
 returns-3 c =
-    let d = c .before .before .before .before .before .before in
-    let a = d .before .before .args in
+    let d : tie.After-entry-of = search in
+    let start : tie.Start = search in
+    let a = start .args in
     let e = d .entry-of .result in
     rw (← (d .entry-of .ensures)) (fine-broken e (now (a .values)) (a .place) _ (elements-over e (c .if3 .taken)))
 
@@ -64,16 +67,20 @@ add-t10 c = search needs
 
 -- spare bits are clear and not all fourteen: an array
 run-holds-requires : tie.Need-run-holds-requires
-run-holds-requires c κs = omega (arith, low-bits (c .before .before .before .before .before .before .before))
+run-holds-requires c κs =
+    let after-entry-of : tie.After-entry-of = search in
+    omega (arith, low-bits (after-entry-of))
 
 returns-4 : tie.Need-returns-4
 returns-4 c =
-    let f = c .before .before in
-    let s = f .before .before in
-    let d = s .before .before .before .before in
-    let a = d .before .before .args in
+    let f : tie.Else3 = search in
+    let s : tie.Else2 = search in
+    let else1 : tie.Else1 = search in
+    let d : tie.After-entry-of = search in
+    let start : tie.Start = search in
+    let a = start .args in
     let e = d .entry-of .result in
-    let some : e .elements ≡ 0 → ⊥ = λ z. s .before .before .if1 .left (omega (arith, low-bits d)) in
+    let some : e .elements ≡ 0 → ⊥ = λ z. else1 .if1 .left (omega (arith, low-bits d)) in
     rw (← (d .entry-of .ensures)) (fine-run e (now (a .values)) (a .place) _ _ (count-some e some) (plain-limits e (f .if3 .left) (s .if2 .left)) (c .run-holds .ensures))
 
 pub check-record-spec : {M : Type 1} → statement M

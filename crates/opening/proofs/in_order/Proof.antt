@@ -58,9 +58,10 @@ went : (c : tie.Else2 Inv-loop μ-loop) →
     let l = r .before in
     asked l ≡ passFrom (values-of l) (entriesAt (table-of l) (l .loop .at + 12)) (entry (l .loop .current) .number + 1) (r .check-record .result .next)
 went c =
-    let r = c .before .before in
+    let r : tie.After-check-record Inv-loop μ-loop = search in
+    let at-loop : tie.At-loop Inv-loop μ-loop = search in
     let f = not-false _ (c .if2 .left) in
-    r .before .loop .inv .3 ∙ rw (← (r .check-record .ensures .0), f, ← (r .check-record .ensures .1 f))
+    at-loop .loop .inv .3 ∙ rw (← (r .check-record .ensures .0), f, ← (r .check-record .ensures .1 f))
 
 -- no record is left
 ended : (c : tie.Then3 Inv-loop μ-loop) →
@@ -68,8 +69,8 @@ ended : (c : tie.Then3 Inv-loop μ-loop) →
     let l = r .before in
     asked l ≡ passFrom (values-of l) [] (entry (l .loop .current) .number + 1) (r .check-record .result .next)
 ended c =
-    let s = c .before .before in
-    let l = s .before .before .before in
+    let s : tie.Else2 Inv-loop μ-loop = search in
+    let l : tie.At-loop Inv-loop μ-loop = search in
     went s ∙ rw (at-end (table-of l) (start l .pre .0) (l .loop .at + 12) (c .if3 .taken))
 
 -- the record that was read is the next
@@ -78,14 +79,14 @@ on : (c : tie.After-record-of2 Inv-loop μ-loop) →
     let l = r .before in
     asked l ≡ passFrom (values-of l) (entry (c .record-of2 .result) ∷ entriesAt (table-of l) (l .loop .at + 12 + 12)) (entry (l .loop .current) .number + 1) (r .check-record .result .next)
 on c =
-    let s = c .before .before .before .before in
-    let l = s .before .before .before in
+    let s : tie.Else2 Inv-loop μ-loop = search in
+    let l : tie.At-loop Inv-loop μ-loop = search in
     let at = l .loop .at + 12 in
     went s ∙ rw (at-step (table-of l) (start l .pre .0) at (at + 12 - at) (c .record-of2 .result) (omega arith) (omega arith) (omega arith) (c .record-of2 .ensures))
 
 returns : tie.Need-returns Inv-loop μ-loop
 returns c =
-    let a = c .before .before .before in
+    let a : tie.Start Inv-loop μ-loop = search in
     let t = now (a .args .t) in
     sym (pass-all t (a .pre .0) (now (a .args .values)) (a .pre .1) ∙ rw (at-end t (a .pre .0) 0 (omega arith)) (pass-end 0 0 (now (a .args .values)) (omega arith) (omega arith)))
 
@@ -103,7 +104,7 @@ record-of-requires c κs = search needs
 
 loop-holds : tie.Need-loop-holds Inv-loop μ-loop
 loop-holds c =
-    let a = c .before .before .before .before .before in
+    let a : tie.Start Inv-loop μ-loop = search in
     let t = now (a .args .t) in
     let vs = now (a .args .values) in
     let e = entry (c .record-of .result) in
@@ -115,9 +116,10 @@ check-record-requires c κs = omega arith
 
 returns-2 : tie.Need-returns-2 Inv-loop μ-loop
 returns-2 c =
-    let r = c .before .before in
+    let r : tie.After-check-record Inv-loop μ-loop = search in
+    let at-loop : tie.At-loop Inv-loop μ-loop = search in
     let broken = not-true (r .check-record .result .fine) (c .if2 .taken) in
-    sym (r .before .loop .inv .3 ∙ rw (← (r .check-record .ensures .0), broken))
+    sym (at-loop .loop .inv .3 ∙ rw (← (r .check-record .ensures .0), broken))
 
 mul-most : tie.Need-mul-most Inv-loop μ-loop
 mul-most c = omega arith
@@ -145,8 +147,8 @@ record-of-requires-2 c κs = search needs
 
 returns-3 : tie.Need-returns-3 Inv-loop μ-loop
 returns-3 c =
-    let d = c .before .before in
-    let l = d .before .before .before .before .before .before .before in
+    let d : tie.After-record-of2 Inv-loop μ-loop = search in
+    let l : tie.At-loop Inv-loop μ-loop = search in
     let e = entry (d .record-of2 .result) in
     let last = entry (l .loop .current) .number in
     let low : e .number < last + 1 = omega (arith, number-is (d .record-of2 .result), number-is (l .loop .current), c .if4 .taken) in
@@ -157,13 +159,14 @@ loop-less c = omega arith
 
 loop-again : tie.Need-loop-again Inv-loop μ-loop
 loop-again c =
-    let d = c .before .before in
-    let r = d .before .before .before .before .before .before in
-    let l = r .before in
+    let d : tie.After-record-of2 Inv-loop μ-loop = search in
+    let else2 : tie.Else2 Inv-loop μ-loop = search in
+    let r : tie.After-check-record Inv-loop μ-loop = search in
+    let l : tie.At-loop Inv-loop μ-loop = search in
     let n = l .loop .current in
     let e = entry (d .record-of2 .result) in
     let up : entry n .number + 1 ≤ e .number = omega (arith, number-is (d .record-of2 .result), number-is n, c .if4 .left) in
-    let f = not-false (r .check-record .result .fine) (d .before .before .before .before .if2 .left) in (
+    let f = not-false (r .check-record .result .fine) (else2 .if2 .left) in (
       omega arith,
       omega arith,
       omega (arith, count-le (n .head) (n .minimum) (n .maximum), r .check-record .ensures .1 f),
@@ -175,22 +178,23 @@ mul-if5 c = search needs
 
 returns-4 : tie.Need-returns-4 Inv-loop μ-loop
 returns-4 c =
-    let d = c .before .before in
-    let l = d .before .before .before .before .before in
+    let d : tie.Then3 Inv-loop μ-loop = search in
+    let l : tie.At-loop Inv-loop μ-loop = search in
     let high : 32000 < entry (l .loop .current) .number + 1 = omega (arith, number-is (l .loop .current), c .if5 .taken) in
     sym (ended d ∙ pass-high _ _ (values-of l) high)
 
 returns-5 : tie.Need-returns-5 Inv-loop μ-loop
 returns-5 c =
-    let d = c .before .before .before in
-    let l = d .before .before .before .before .before in
+    let d : tie.Then3 Inv-loop μ-loop = search in
+    let l : tie.At-loop Inv-loop μ-loop = search in
     sym (ended d ∙ pass-over (entry (l .loop .current) .number + 1) _ (values-of l) (c .if6 .taken))
 
 returns-6 : tie.Need-returns-6 Inv-loop μ-loop
 returns-6 c =
-    let d = c .before .before .before in
-    let l = d .before .before .before .before .before in
-    let few : entry (l .loop .current) .number + 1 ≤ 32000 = omega (arith, number-is (l .loop .current), c .before .if5 .left) in
+    let else5 : tie.Else5 Inv-loop μ-loop = search in
+    let d : tie.Then3 Inv-loop μ-loop = search in
+    let l : tie.At-loop Inv-loop μ-loop = search in
+    let few : entry (l .loop .current) .number + 1 ≤ 32000 = omega (arith, number-is (l .loop .current), else5 .if5 .left) in
     sym (ended d ∙ pass-end _ _ (values-of l) few (c .if6 .left))
 
 pub in-order-spec : {M : Type 1} → statement M

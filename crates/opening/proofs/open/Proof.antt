@@ -14,7 +14,9 @@ setup-ok-requires : tie.Need-setup-ok-requires
 setup-ok-requires c κs = search needs
 
 returns : tie.Need-returns
-returns c = sym (open-setup _ _ _ _ (sym (c .before .setup-ok .ensures) ∙ not-true _ (c .if1 .taken)))
+returns c =
+    let after-setup-ok : tie.After-setup-ok = search in
+    sym (open-setup _ (sym (after-setup-ok .setup-ok .ensures) ∙ not-true _ (c .if1 .taken)))
 
 check-content-requires : tie.Need-check-content-requires
 check-content-requires c κs = search needs
@@ -27,18 +29,27 @@ enum-told c = search needs
 
 returns-2 : tie.Need-returns-2
 returns-2 c =
-    let k = c .before .before .before in
-    sym (open-content _ _ _ _ _ (sym (k .before .before .setup-ok .ensures) ∙ not-false _ (k .before .if1 .left)) (sym (k .check-content .ensures) ∙ c .before .content .given .1))
+    let after-content : tie.After-content = search in
+    let k : tie.After-check-content = search in
+    let else1 : tie.Else1 = search in
+    let after-setup-ok : tie.After-setup-ok = search in
+    sym (open-content _ _ (sym (after-setup-ok .setup-ok .ensures) ∙ not-false _ (else1 .if1 .left)) (sym (k .check-content .ensures) ∙ after-content .content .given .1))
 
 returns-3 : tie.Need-returns-3
 returns-3 c =
-    let k = c .before .before .before in
-    sym (open-buffer _ _ _ _ (sym (k .before .before .setup-ok .ensures) ∙ not-false _ (k .before .if1 .left)) (sym (k .check-content .ensures) ∙ c .before .enum-told .given .1) (c .if2 .taken))
+    let after-enum-told : tie.After-enum-told = search in
+    let k : tie.After-check-content = search in
+    let else1 : tie.Else1 = search in
+    let after-setup-ok : tie.After-setup-ok = search in
+    sym (open-buffer _ (sym (after-setup-ok .setup-ok .ensures) ∙ not-false _ (else1 .if1 .left)) (sym (k .check-content .ensures) ∙ after-enum-told .enum-told .given .1) (c .if2 .taken))
 
 returns-4 : tie.Need-returns-4
 returns-4 c =
-    let k = c .before .before .before in
-    sym (open-passed _ _ _ _ (sym (k .before .before .setup-ok .ensures) ∙ not-false _ (k .before .if1 .left)) (sym (k .check-content .ensures) ∙ c .before .enum-told .given .1) (c .if2 .left))
+    let after-enum-told : tie.After-enum-told = search in
+    let k : tie.After-check-content = search in
+    let else1 : tie.Else1 = search in
+    let after-setup-ok : tie.After-setup-ok = search in
+    sym (open-passed _ (sym (after-setup-ok .setup-ok .ensures) ∙ not-false _ (else1 .if1 .left)) (sym (k .check-content .ensures) ∙ after-enum-told .enum-told .given .1) (c .if2 .left))
 
 pub open-spec : {M : Type 1} → statement M
 open-spec =

@@ -35,7 +35,8 @@ record-of-requires c κs = search needs
 
 returns : tie.Need-returns
 returns c =
-    let a = c .before .before .before .args in
+    let start : tie.Start = search in
+    let a = start .args in
     let r = c .record-of .ensures ∙ record-part (now (a .t)) (a .k) (12 * a .k + 12 - 12 * a .k) (omega arith) (omega arith) in
     (ap (λ (x : Record). x .head) r, ap (λ (x : Record). x .minimum) r, ap (λ (x : Record). x .maximum) r)
 

@@ -30,7 +30,8 @@ add-if1 c = omega arith
 
 returns : tie.Need-returns Inv-loop μ-loop
 returns c =
-    let a = c .before .before .args in
+    let start : tie.Start Inv-loop μ-loop = search in
+    let a = start .args in
     run-short (limitsOk (a .e)) _ (runOk (a .e) (now (a .values)) (a .n) (a .place)) (lt-leb (a .place + a .n) (length (now (a .values))) (c .if1 .taken))
 
 loop-holds : tie.Need-loop-holds Inv-loop μ-loop
@@ -41,8 +42,9 @@ add-holds c = omega arith
 
 mul-holds : tie.Need-mul-holds Inv-loop μ-loop
 mul-holds c =
-    let l = c .before in
-    let a = l .before .before .before .args in
+    let l : tie.At-loop Inv-loop μ-loop = search in
+    let start : tie.Start Inv-loop μ-loop = search in
+    let a = start .args in
     let h : a .place + l .loop .i < length (now (a .values)) = omega arith in
     search needs
 
@@ -63,10 +65,11 @@ loop-less c = omega arith
 
 loop-again : tie.Need-loop-again Inv-loop μ-loop
 loop-again c =
-    let w = c .before in
-    let t = w .before .before in
-    let l = t .before in
-    let a = l .before .before .before .args in (
+    let w : tie.After-holds Inv-loop μ-loop = search in
+    let t : tie.In-loop Inv-loop μ-loop = search in
+    let l : tie.At-loop Inv-loop μ-loop = search in
+    let start : tie.Start Inv-loop μ-loop = search in
+    let a = start .args in (
       omega arith,
       l .loop .inv .1 ∙ run-on (a .e) (now (a .values)) (a .n) (a .place) (l .loop .i) (l .loop .all) _ _ (t .loop-test .taken) (w .holds .ensures) (c .hold-both .ensures),
       λ h. value-shows (l .loop .all) (limitsOk (a .e)) _ _ _ (w .holds .ensures) (c .hold-both .ensures),
@@ -74,10 +77,12 @@ loop-again c =
 
 returns-2 : tie.Need-returns-2 Inv-loop μ-loop
 returns-2 c =
-    let l = c .before in
-    let a = l .before .before .before .args in
+    let l : tie.At-loop Inv-loop μ-loop = search in
+    let else1 : tie.Else1 Inv-loop μ-loop = search in
+    let start : tie.Start Inv-loop μ-loop = search in
+    let a = start .args in
     let end = run-end (a .e) (now (a .values)) (a .n) (a .place) (l .loop .i) (c .loop-test .left) in
-    run-all (limitsOk (a .e)) _ (runOk (a .e) (now (a .values)) (a .n) (a .place)) (l .loop .all) (le-leb (a .place + a .n) (length (now (a .values))) (l .before .if1 .left)) (l .loop .inv .1 ∙ ap (λ (b : Bool). l .loop .all && (limitsOk (a .e) && b)) end) (l .loop .inv .2 (omega arith))
+    run-all (limitsOk (a .e)) _ (runOk (a .e) (now (a .values)) (a .n) (a .place)) (l .loop .all) (le-leb (a .place + a .n) (length (now (a .values))) (else1 .if1 .left)) (l .loop .inv .1 ∙ ap (λ (b : Bool). l .loop .all && (limitsOk (a .e) && b)) end) (l .loop .inv .2 (omega arith))
 
 pub run-holds-spec : {M : Type 1} → statement M
 run-holds-spec =

@@ -32,7 +32,9 @@ abbrev μ-loop : tie.MeasureT-loop
 -- the record that was read is record k
 is-record : (c : tie.After-entry-of Inv-loop μ-loop) → (let l = c .before .before .before in c .entry-of .result ≡ entryAt (now (l .before .before .args .t)) (l .loop .k))
 unfolding entryAt
-is-record c = let d = c .before .record-at .ensures in c .entry-of .ensures ∙ rw (d .0, d .1, d .2)
+is-record c =
+    let after-record-at : tie.After-record-at Inv-loop μ-loop = search in
+    let d = after-record-at .record-at .ensures in c .entry-of .ensures ∙ rw (d .0, d .1, d .2)
 
 -- and the next of the pass
 left : (c : tie.After-entry-of Inv-loop μ-loop) →
@@ -40,22 +42,26 @@ left : (c : tie.After-entry-of Inv-loop μ-loop) →
     let a = l .before .before .args in
     tableOk (now (a .t)) ≡ ruledFrom (c .entry-of .result ∷ entriesFrom (now (a .t)) (a .n - (l .loop .k + 1)) (l .loop .k + 1)) (l .loop .least) (l .loop .place)
 left c =
-    let l = c .before .before .before in
-    let a = l .before .before .args in
-    let step = entries-step (now (a .t)) (a .n) (l .loop .k) (c .before .before .loop-test .taken) in
+    let in-loop : tie.In-loop Inv-loop μ-loop = search in
+    let l : tie.At-loop Inv-loop μ-loop = search in
+    let start : tie.Start Inv-loop μ-loop = search in
+    let a = start .args in
+    let step = entries-step (now (a .t)) (a .n) (l .loop .k) (in-loop .loop-test .taken) in
     l .loop .inv .2 ∙ ap (λ (es : List Entry). ruledFrom es (l .loop .least) (l .loop .place)) step ∙ rw (is-record c)
 
 -- its places are at most 255
 places-few : (c : tie.After-count-places Inv-loop μ-loop) → c .count-places .result ≤ 255
 places-few c =
-    let d = c .before .before .before .before .before .before in
-    let l = d .before .before .before in
+    let d : tie.After-entry-of Inv-loop μ-loop = search in
+    let l : tie.At-loop Inv-loop μ-loop = search in
+    let start : tie.Start Inv-loop μ-loop = search in
     let e = c .count-places .ensures ∙ ap countOf (is-record d) in
-    omega (arith, count-at-le (now (l .before .before .args .t)) (l .loop .k))
+    omega (arith, count-at-le (now (start .args .t)) (l .loop .k))
 
 loop-holds : tie.Need-loop-holds Inv-loop μ-loop
 loop-holds c =
-    let a = c .before .args in
+    let start : tie.Start Inv-loop μ-loop = search in
+    let a = start .args in
     (omega arith, omega arith, rw sub-zero (rule-all (now (a .t)) (a .n) (omega arith) (omega arith)))
 
 record-at-requires : tie.Need-record-at-requires Inv-loop μ-loop
@@ -65,20 +71,24 @@ entry-of-requires : tie.Need-entry-of-requires Inv-loop μ-loop
 entry-of-requires c κs = search needs
 
 returns : tie.Need-returns Inv-loop μ-loop
-returns c = sym (left (c .before .before) ∙ rule-low _ _ _ _ (c .if1 .taken))
+returns c =
+    let after-entry-of : tie.After-entry-of Inv-loop μ-loop = search in
+    sym (left (after-entry-of) ∙ rule-low _ _ _ _ (c .if1 .taken))
 
 entry-ok-requires : tie.Need-entry-ok-requires Inv-loop μ-loop
 entry-ok-requires c κs = search needs
 
 returns-2 : tie.Need-returns-2 Inv-loop μ-loop
 returns-2 c =
-    let o = c .before in
-    sym (left (o .before .before .before) ∙ rule-broken _ _ _ _ (sym (o .entry-ok .ensures) ∙ not-true _ (c .if2 .taken)))
+    let o : tie.After-entry-ok Inv-loop μ-loop = search in
+    let after-entry-of : tie.After-entry-of Inv-loop μ-loop = search in
+    sym (left (after-entry-of) ∙ rule-broken _ _ _ _ (sym (o .entry-ok .ensures) ∙ not-true _ (c .if2 .taken)))
 
 add-least : tie.Need-add-least Inv-loop μ-loop
 add-least c =
-    let o = c .before .before in
-    let f = ok-ruled _ (sym (o .entry-ok .ensures) ∙ not-false _ (c .before .if2 .left)) in
+    let else2 : tie.Else2 Inv-loop μ-loop = search in
+    let o : tie.After-entry-ok Inv-loop μ-loop = search in
+    let f = ok-ruled _ (sym (o .entry-ok .ensures) ∙ not-false _ (else2 .if2 .left)) in
     omega arith
 
 count-places-requires : tie.Need-count-places-requires Inv-loop μ-loop
@@ -95,17 +105,19 @@ loop-less c = omega arith
 
 loop-again : tie.Need-loop-again Inv-loop μ-loop
 loop-again c =
-    let l = c .before .before in
-    let o = l .before in
-    let d = o .before .before .before in
+    let l : tie.Else2 Inv-loop μ-loop = search in
+    let o : tie.After-entry-ok Inv-loop μ-loop = search in
+    let else1 : tie.Else1 Inv-loop μ-loop = search in
+    let d : tie.After-entry-of Inv-loop μ-loop = search in
     let h = places-few c in
     let ok = sym (o .entry-ok .ensures) ∙ not-false _ (l .if2 .left) in
-    (omega arith, omega arith, left d ∙ rule-on _ _ _ _ (o .before .if1 .left) ok ∙ rw (← (c .count-places .ensures)))
+    (omega arith, omega arith, left d ∙ rule-on _ _ _ _ (else1 .if1 .left) ok ∙ rw (← (c .count-places .ensures)))
 
 returns-3 : tie.Need-returns-3 Inv-loop μ-loop
 returns-3 c =
-    let l = c .before in
-    let a = l .before .before .args in
+    let l : tie.At-loop Inv-loop μ-loop = search in
+    let start : tie.Start Inv-loop μ-loop = search in
+    let a = start .args in
     sym (l .loop .inv .2 ∙ rw (entries-end (now (a .t)) (a .n) (l .loop .k) (c .loop-test .left)) (rule-end _ _))
 
 pub table-ok-spec : {M : Type 1} → statement M

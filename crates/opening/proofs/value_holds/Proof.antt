@@ -16,7 +16,8 @@ use Rattle.opening.proofs.holds.Reads as holds-reads
 
 returns : tie.Need-returns
 returns c =
-    let a = c .before .before .args in
+    let start : tie.Start = search in
+    let a = start .args in
     run-short (limitsOk (a .e)) _ (runOk (a .e) (now (a .values)) 1 (a .place)) (lt-leb (a .place + 1) (length (now (a .values))) (omega arith))
 
 mul-holds : tie.Need-mul-holds
@@ -30,8 +31,9 @@ holds-requires c κs = search needs
 
 returns-2 : tie.Need-returns-2
 returns-2 c =
-    let l = c .before .before in
-    let a = l .before .before .args in
+    let l : tie.Else1 = search in
+    let start : tie.Start = search in
+    let a = start .args in
     run-one (a .e) (now (a .values)) (a .place) _ (omega arith) (c .holds .ensures)
 
 pub value-holds-spec : {M : Type 1} → statement M
