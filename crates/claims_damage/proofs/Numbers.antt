@@ -1,4 +1,4 @@
--- Which number damage is refused with. Assumes nothing.
+-- Which number damage is refused with; said by number, so that what a fault carries does not show here. Assumes nothing.
 --     first-hit-11       11 where the first byte is hit
 --     second-hit-12-13   12 or 13 where LGE is, and the first byte is not
 --     rest-hit-14        14 where both are spared and the damage is seen
@@ -12,12 +12,10 @@ use borrow.Author.Tests.{le-ltb, eq-eqb, ne-eqb}
 use lib.Dec.{ltb}
 use lib.ListN.{length}
 use Rattle.words.specs.Words.{byteAt}
-use Rattle.frame.specs.Frame.{frameOf, isSound}
-use Rattle.frame.specs.declared.FrameFault.the-variants.{Start, Length, Count, Check}
-use Rattle.frame.specs.declared.FrameCheck.the-variants.{Broken}
+use Rattle.frame.specs.Frame.{frameOf, checkNumber, isSound}
 use Rattle.bcc.proofs.XorLaws.{xor-fix, length-zip, getD-zip}
 use Rattle.frame.proofs.FrameLaws.{Counted, sound-framed, framed-sound, check-wrong}
-use Rattle.claims_damage.specs.Damage.{damaged, Damage, Unseen, Hit}
+use Rattle.claims_damage.specs.Damage.{damaged, Damage, Unseen, Hit, Numbered}
 use Rattle.claims_damage.proofs.Seen.{kept, counted-kept, exact}
 
 module _ (t f : List ℕ) (d : Damage t f) where
@@ -31,18 +29,18 @@ module _ (t f : List ℕ) (d : Damage t f) where
   other : (i : ℕ) → Hit f i → byteAt (damaged t f) i ≡ byteAt t i → ⊥
   other i h e = omega (arith, xor-fix (byteAt t i) (byteAt f i) (sym (getD-zip t f i (d .same)) ∙ e))
 
-  pub first-hit-11 : Hit f 0 → frameOf (damaged t f) ≡ Broken Start
+  pub first-hit-11 : Hit f 0 → Numbered (damaged t f) 11
   unfolding frameOf
   first-hit-11 h =
       simp
       (le-ltb (length (damaged t f)) 5 (omega (arith, long, counted .long)), ne-eqb (byteAt (damaged t f) 0) 2 (λ e. other 0 h (e ∙ sym (counted .start))))
 
-  pub second-hit-12-13 : byteAt f 0 ≡ 0 → Hit f 1 → (frameOf (damaged t f) ≡ Broken Length) ⊎ (frameOf (damaged t f) ≡ Broken Count)
+  pub second-hit-12-13 : byteAt f 0 ≡ 0 → Hit f 1 → Numbered (damaged t f) 12 ⊎ Numbered (damaged t f) 13
   unfolding frameOf
   second-hit-12-13 z h = go (ltb (byteAt (damaged t f) 1) 3 || ltb 254 (byteAt (damaged t f) 1)) refl
     where
       go : (b : Bool) → (ltb (byteAt (damaged t f) 1) 3 || ltb 254 (byteAt (damaged t f) 1)) ≡ b
-          → (frameOf (damaged t f) ≡ Broken Length) ⊎ (frameOf (damaged t f) ≡ Broken Count)
+          → Numbered (damaged t f) 12 ⊎ Numbered (damaged t f) 13
       go true e =
           inl (simp (le-ltb (length (damaged t f)) 5 (omega (arith, long, counted .long)), eq-eqb (byteAt (damaged t f) 0) 2 (kept t f d 0 z ∙ counted .start), e))
       go false e =
@@ -53,7 +51,7 @@ module _ (t f : List ℕ) (d : Damage t f) where
             ne-eqb (length (damaged t f)) (byteAt (damaged t f) 1 + 2) (λ q. other 1 h (omega (arith, long, counted .count))),
           ))
 
-  pub rest-hit-14 : byteAt f 0 ≡ 0 → byteAt f 1 ≡ 0 → (Unseen f → ⊥) → frameOf (damaged t f) ≡ Broken Check
+  pub rest-hit-14 : byteAt f 0 ≡ 0 → byteAt f 1 ≡ 0 → (Unseen f → ⊥) → Numbered (damaged t f) 14
   rest-hit-14 z y seen =
       let c = counted-kept t f d z y in
-      check-wrong (damaged t f) c (λ e. seen (exact t f d .0 (ap isSound (framed-sound (damaged t f) (record { counted = c; check = e })))))
+      ap checkNumber (check-wrong (damaged t f) c (λ e. seen (exact t f d .0 (ap isSound (framed-sound (damaged t f) (record { counted = c; check = e }))))))

@@ -19,13 +19,12 @@ use Rattle.rows.specs.Bits.{bit}
 use Rattle.words.specs.Words.{byteAt}
 use Rattle.bcc.specs.Bcc.{xorAll}
 use Rattle.frame.specs.Frame.{frameOf, isSound}
-use Rattle.frame.specs.declared.FrameFault.the-variants.{Count}
 use Rattle.frame.specs.declared.FrameCheck.{FrameCheck}
 use Rattle.frame.specs.declared.FrameCheck.the-variants.{Sound, Broken}
 use Rattle.frame.proofs.NumberLaws.{frame-between}
 use Rattle.bcc.proofs.XorLaws.{xor-all-lt, xor-fix, length-zip, getD-zip, xor-zip}
 use Rattle.frame.proofs.FrameLaws.{Counted, sound-framed, framed-sound, zero-of-check, check-of-zero}
-use Rattle.claims_damage.specs.Damage.{damaged, Damage, flips, Passes, Refuses, Unseen, Hit, OneByte, bitAt, Order, Burst}
+use Rattle.claims_damage.specs.Damage.{damaged, Damage, flips, Passes, Refuses, Numbered, Unseen, Hit, OneByte, bitAt, Order, Burst}
 use Rattle.claims_damage.proofs.Parity.{zero-digits, one-digit, digit-parity, single}
 
 -- ---- the exact line
@@ -45,7 +44,7 @@ module _ (t f : List ℕ) (d : Damage t f) where
       let z : xorAll f ≡ 0 = sym xor-damaged ∙ zero-of-check (damaged t f) (omega (arith, q .counted .long)) (q .check) in
       record {
         first = xor-fix (byteAt t 0) (byteAt f 0) (sym (getD-zip t f 0 (d .same)) ∙ q .counted .start ∙ sym (p .start));
-        second = xor-fix (byteAt t 1) (byteAt f 1) (sym (getD-zip t f 1 (d .same)) ∙ omega (arith, p .count, q .counted .count, n));
+        second = omega (arith, xor-fix (byteAt t 1) (byteAt f 1) (sym (getD-zip t f 1 (d .same)) ∙ omega (arith, p .count, q .counted .count, n)));
         even = λ k hk. sym (digit-parity k f) ∙ ap (λ (x : ℕ). bit k x) z ∙ ap (λ (x : ℕ). x % 2) (zero-div (2 ^ k));
       }
 
@@ -123,7 +122,7 @@ second-hit-seen t f d w = not-passing-refused (damaged t f) (λ h. omega (arith,
 
 -- ---- a length byte that promises more than was received
 
-pub long-promise : (t : List ℕ) → length t ≡ 16 → byteAt t 0 ≡ 2 → byteAt t 1 ≡ 254 → frameOf t ≡ Broken Count
+pub long-promise : (t : List ℕ) → length t ≡ 16 → byteAt t 0 ≡ 2 → byteAt t 1 ≡ 254 → Numbered t 13
 unfolding frameOf
 long-promise t n s l =
     simp

@@ -1,6 +1,7 @@
 -- Damage to a telegram: bits changed, the byte count not. A pattern f has a byte for each byte of the telegram t,
 -- and a 1 in it for each bit that is flipped.
 --     Passes t, Refuses t       the frame check finds no fault; it finds one, numbered 10 to 14
+--     Numbered t n              it finds the fault that has number n
 --     damaged t f               what is received where t was sent
 --     Damage t f                t passes the frame check, and f is a pattern of flips of the same byte count
 --     flips k f                 how many bytes have the bit at position k flipped
@@ -16,7 +17,7 @@ use lib.Bits.{bitXor}
 use lib.ListN.{length}
 use Rattle.rows.specs.Bits.{bit}
 use Rattle.words.specs.Words.{byteAt, Bytes}
-use Rattle.frame.specs.Frame.{frameOf, isSound, frameNumber}
+use Rattle.frame.specs.Frame.{frameOf, isSound, frameNumber, checkNumber}
 use Rattle.frame.specs.declared.FrameFault.{FrameFault}
 use Rattle.frame.specs.declared.FrameCheck.the-variants.{Broken}
 
@@ -28,6 +29,9 @@ pub record Refuses (t : List ℕ) : Type 0 where
   pub answer : frameOf t ≡ Broken fault
   pub least : 10 ≤ frameNumber fault
   pub most : frameNumber fault ≤ 14
+
+abbrev pub Numbered : List ℕ → ℕ → Type 0
+Numbered t n = checkNumber (frameOf t) ≡ n
 
 abbrev pub damaged : List ℕ → List ℕ → List ℕ
 damaged t f = zipWith bitXor t f
