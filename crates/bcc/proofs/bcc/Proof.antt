@@ -23,7 +23,10 @@ abbrev μ-loop : tie.MeasureT-loop
 μ-loop bytes n half sum₀ i₀ sum i = half - i
 
 loop-holds : tie.Need-loop-holds Inv-loop μ-loop
-loop-holds c = let t = c .before .args .bytes .now in (omega arith, sym (halves-none t (length t / 8 * 4)))
+loop-holds c =
+    let start : tie.Start Inv-loop μ-loop = search in
+    let t = start .args .bytes .now in
+    (omega arith, sym (halves-none t (length t / 8 * 4)))
 
 mul-four : tie.Need-mul-four Inv-loop μ-loop
 mul-four c = omega arith
@@ -48,10 +51,13 @@ loop-less c = omega arith
 
 loop-again : tie.Need-loop-again Inv-loop μ-loop
 loop-again c =
-    let l = c .before .before .before .loop in
-    let k = c .before .before .before .before in
-    let t = k .before .args .bytes .now in
-    (omega arith, rw (c .before .four .ensures, c .four2 .ensures) (halves-more t (λ j. k .shared-slice-known .given j .fits) (l .sum) (length t / 8) (l .i) (omega arith) (omega arith) (l .inv .1)))
+    let after-four : tie.After-four Inv-loop μ-loop = search in
+    let at-loop : tie.At-loop Inv-loop μ-loop = search in
+    let k : tie.After-shared-slice-known Inv-loop μ-loop = search in
+    let start : tie.Start Inv-loop μ-loop = search in
+    let l = at-loop .loop in
+    let t = start .args .bytes .now in
+    (omega arith, rw (after-four .four .ensures, c .four2 .ensures) (halves-more t (λ j. k .shared-slice-known .given j .fits) (l .sum) (length t / 8) (l .i) (omega arith) (omega arith) (l .inv .1)))
 
 mul-four-3 : tie.Need-mul-four-3 Inv-loop μ-loop
 mul-four-3 c = omega arith
@@ -84,7 +90,9 @@ shared-slice-read-sum : tie.Need-shared-slice-read-sum Inv-loop μ-loop
 shared-slice-read-sum c = omega arith
 
 cast-sum-2 : tie.Need-cast-sum-2 Inv-loop μ-loop
-cast-sum-2 c = omega (arith, c .shared-slice-known4 .given (length (c .before .before .before .before .before .before .before .before .args .bytes .now) - 1))
+cast-sum-2 c =
+    let start : tie.Start Inv-loop μ-loop = search in
+    omega (arith, c .shared-slice-known4 .given (length (start .args .bytes .now) - 1))
 
 cast-low : tie.Need-cast-low Inv-loop μ-loop
 cast-low c = omega arith
@@ -93,27 +101,37 @@ cast-high : tie.Need-cast-high Inv-loop μ-loop
 cast-high c = omega arith
 
 cast-result : tie.Need-cast-result Inv-loop μ-loop
-cast-result c = record { fits = folded-lt (c .before .if1 .sum) (omega arith) }
+cast-result c =
+    let joined1 : tie.Joined1 Inv-loop μ-loop = search in
+    record { fits = folded-lt (joined1 .if1 .sum) (omega arith) }
 
 -- the first two tests after the loop mix in what they say, so the third leaves the XOR of all bytes
-last-mixed : (c : tie.Joined3 Inv-loop μ-loop) (d : ℕ) → let t = c .before .before .before .before .before .before .args .bytes .now in Mixed (length t % 2 ≡ 1) (c .if3 .sum) (byteAt t (length t - 1)) d → folded d ≡ xorAll t
+last-mixed : (c : tie.Joined3 Inv-loop μ-loop) (d : ℕ)
+    → (let start : tie.Start Inv-loop μ-loop = search in
+    let t = start .args .bytes .now in
+    Mixed (length t % 2 ≡ 1) (c .if3 .sum) (byteAt t (length t - 1)) d → folded d ≡ xorAll t)
 last-mixed c d =
-    let l = c .before .before .before .before in
-    let k = l .before in
-    all-mixed (k .before .args .bytes .now) (λ j. k .shared-slice-known .given j .fits) (l .loop .sum) (l .loop .i) (c .before .if2 .sum) (c .if3 .sum) d (omega arith) (l .loop .inv .1)
-    (⊎-elim (λ w. inl (w .0 .taken, w .2 ∙ rw (w .1 .ensures))) (λ w. inr (w .0 .left, w .1)) (c .before .if2 .came))
+    let joined2 : tie.Joined2 Inv-loop μ-loop = search in
+    let l : tie.At-loop Inv-loop μ-loop = search in
+    let k : tie.After-shared-slice-known Inv-loop μ-loop = search in
+    let start : tie.Start Inv-loop μ-loop = search in
+    all-mixed (start .args .bytes .now) (λ j. k .shared-slice-known .given j .fits) (l .loop .sum) (l .loop .i) (joined2 .if2 .sum) (c .if3 .sum) d (omega arith) (l .loop .inv .1)
+    (⊎-elim (λ w. inl (w .0 .taken, w .2 ∙ rw (w .1 .ensures))) (λ w. inr (w .0 .left, w .1)) (joined2 .if2 .came))
     (⊎-elim (λ w. inl (w .0 .taken, w .5 ∙ rw (w .3 .ensures))) (λ w. inr (w .0 .left, w .1)) (c .if3 .came))
 
 returns : tie.Need-returns Inv-loop μ-loop
 returns c =
-    let l = c .before .before in
-    let k = l .before .before in
+    let joined1 : tie.Joined1 Inv-loop μ-loop = search in
+    let l : tie.After-loop Inv-loop μ-loop = search in
+    let at-loop : tie.At-loop Inv-loop μ-loop = search in
+    let k : tie.After-shared-slice-known Inv-loop μ-loop = search in
+    let start : tie.Start Inv-loop μ-loop = search in
     ⊎-elim
     (λ w. last-mixed (record { before = record { before = record { before = l; if1 = w .0 }; if2 = w .1 }; if3 = w .2 }) _ (inl (w .3 .taken, w .6)))
     (⊎-elim
     (λ w. last-mixed (record { before = record { before = record { before = l; if1 = w .0 }; if2 = w .1 }; if3 = w .2 }) _ (inr (w .3 .left, w .4)))
-    (λ w. all-mixed (k .before .args .bytes .now) (λ j. k .shared-slice-known .given j .fits) (l .before .loop .sum) (l .before .loop .i) _ _ _ (omega arith) (l .before .loop .inv .1) (inr (λ q. omega arith, refl)) (inr (λ q. omega arith, refl)) (inr (λ q. omega arith, w .1))))
-    (c .before .if1 .came)
+    (λ w. all-mixed (start .args .bytes .now) (λ j. k .shared-slice-known .given j .fits) (at-loop .loop .sum) (at-loop .loop .i) _ _ _ (omega arith) (at-loop .loop .inv .1) (inr (λ q. omega arith, refl)) (inr (λ q. omega arith, refl)) (inr (λ q. omega arith, w .1))))
+    (joined1 .if1 .came)
 
 pub bcc-spec : {M : Type 1} → statement M
 bcc-spec =

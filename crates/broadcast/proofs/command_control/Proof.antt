@@ -15,7 +15,9 @@ merge-selected-requires-2 c κs = search needs
 
 returns : tie.Need-returns
 unfolding controlAfter
-returns c = rw (c .before .merge-selected .ensures, c .merge-selected2 .ensures)
+returns c =
+    let after-merge-selected : tie.After-merge-selected = search in
+    rw (after-merge-selected .merge-selected .ensures, c .merge-selected2 .ensures)
 
 pub command-control-spec : {M : Type 1} → statement M
 command-control-spec =

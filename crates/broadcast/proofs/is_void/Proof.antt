@@ -41,11 +41,15 @@ returns-8 c = search tests
 
 returns-9 : tie.Need-returns-9
 unfolding isVoid
-returns-9 c = ⊎-elim (λ w. search tests) (λ w. search tests) (c .before .before .if8 .came)
+returns-9 c =
+    let joined8 : tie.Joined8 = search in
+    ⊎-elim (λ w. search tests) (λ w. search tests) (joined8 .if8 .came)
 
 returns-10 : tie.Need-returns-10
 unfolding isVoid
-returns-10 c = ⊎-elim (λ w. search tests) (λ w. search tests) (c .before .before .if8 .came)
+returns-10 c =
+    let joined8 : tie.Joined8 = search in
+    ⊎-elim (λ w. search tests) (λ w. search tests) (joined8 .if8 .came)
 
 pub is-void-spec : {M : Type 1} → statement M
 is-void-spec =
