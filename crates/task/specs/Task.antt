@@ -1,8 +1,15 @@
--- The tasks 0 to 15 (document 01, the table of Parameter area): act, width, whether the index names an element, reply ID.
--- A read of a double replies with the next ID. Tasks 11 to 14 also ask for saving; here they act as 8, 7, 3, 2.
-use Prim.Native.Nat.{ℕ}
+-- The tasks 0 to 15 (document 01, the table of Parameter area). Tasks 11 to 14 also ask for saving; here they act as 8, 7, 3, 2.
+--     taskRow act width array reply     a row: act, width, whether the index names an element, reply ID
+--     refusedRow                        the row of the task IDs that error 106 answers
+--     tasks                             the rows of the task IDs 0 to 15
+--     taskOf id                         what a task ID asks
+--     readReply reply double            the reply ID of a read, where `reply` is that of a word: 1 word, 2 double; 4 word, 5 double
+--     isDoubleId id                     whether a reply ID carries a double
+--     carried width v                   the value that a task carries, where v is that of its area
+use Prim.Native.Nat.{ℕ, _+_, _%_}
 use mathlib.Core.List.{List, [], _∷_}
-use mathlib.Core.Bool.{Bool, true, false}
+use mathlib.Core.Bool.{Bool, true, false, _||_, cond}
+use lib.Dec.{eqb}
 use lib.ListN.{getD}
 use Rattle.task.specs.declared.Act.{Act}
 use Rattle.task.specs.declared.Act.the-variants.{Nothing, Read, Change, Count, Refuse}
@@ -49,3 +56,17 @@ tasks =
 
 unfoldable pub taskOf : ℕ → Task
 taskOf id = getD tasks id refusedRow
+
+-- a read of a double replies with the next ID
+abbrev pub readReply : ℕ → Bool → ℕ
+readReply reply double = reply + cond double 1 0
+
+-- the IDs of reads 1 and 6 of a double
+abbrev pub isDoubleId : ℕ → Bool
+isDoubleId id = eqb id (readReply 1 true) || eqb id (readReply 4 true)
+
+-- a word task carries a word: PWE1 of a four-word area is ignored
+abbrev pub carried : Width → ℕ → ℕ
+carried Either v = v
+carried Word v = v % 65536
+carried Double v = v

@@ -1,14 +1,20 @@
 -- The errors of a task on a parameter (document 01, Parameter area), in the document's order; the first that applies counts.
--- Error 0 is there before a record is found, so the slave gives it (slave, Perform).
---     errorNumber e       the document's number of an error
---     verdictRows ..      the errors' tests, in the document's order
---     verdictOf ..        granted, or the error
---     elementOf ..        the element that a task means
+-- Of a task k with its index, and the value v that it carries, in an area of n words, on the record e of a parameter. Error 0 is given
+-- where no record is found.
+--     errorNumber error             the document's number of an error
+--     refusesAct act                whether error 106 answers; changesAct, countsAct: whether it is a change, or task 9
+--     differsWidth width double     a word task on a double parameter or the reverse
+--     verdictRows n k e index v     the errors' tests, in the document's order
+--     verdictOf n k e index v       granted, or the error
+--     elementOf k e index           the element that the task means
 use Prim.Native.Nat.{ℕ}
 use mathlib.Core.Bool.{Bool, true, false, not, _&&_, cond}
 use mathlib.Core.List.{List, [], _∷_}
 use lib.Dec.{eqb, ltb, leb}
 use Rattle.rows.specs.Rows.{firstOf}
+use Rattle.entry.specs.declared.Entry.{Entry}
+use Rattle.entry.specs.Limits.{isWithin}
+use Rattle.task.specs.declared.Task.{Task}
 use Rattle.task.specs.declared.Act.{Act}
 use Rattle.task.specs.declared.Act.the-variants.{Nothing, Read, Change, Count, Refuse}
 use Rattle.task.specs.declared.Width.{Width}
@@ -55,42 +61,39 @@ differsWidth Either double = false
 differsWidth Word double = double
 differsWidth Double double = not double
 
--- not an array and index over 1
-abbrev pub lacksArray : Bool → ℕ → ℕ → Bool
-lacksArray array elements index = array && (eqb elements 0 && ltb 1 index)
+-- a task whose index names an element, and not an array and index over 1
+abbrev pub lacksArray : Task → Entry → ℕ → Bool
+lacksArray k e index = k .array && (eqb (e .elements) 0 && ltb 1 index)
 
--- array and index not below its element count
-abbrev pub lacksElement : Bool → ℕ → ℕ → Bool
-lacksElement array elements index = array && (not (eqb elements 0) && leb elements index)
+-- a task whose index names an element, and array and index not below its element count
+abbrev pub lacksElement : Task → Entry → ℕ → Bool
+lacksElement k e index = k .array && (not (eqb (e .elements) 0) && leb (e .elements) index)
 
 -- double parameter in a three-word area, except task 9
-abbrev pub lacksRoom : Bool → ℕ → Bool → Bool
-lacksRoom double n count = double && (eqb n 3 && not count)
+abbrev pub lacksRoom : ℕ → Task → Entry → Bool
+lacksRoom n k e = e .double && (eqb n 3 && not (countsAct (k .act)))
 
--- of a task (act, width, array) with an index on a parameter (elements, double, writable) in an area of n words, where
--- `inside` says whether the value is within the parameter's limits
-abbrev pub verdictRows : Act → Width → Bool → ℕ → Bool → Bool → Bool → ℕ → ℕ → List (Bool × Verdict)
-verdictRows act width array elements double writable inside index n =
+abbrev pub verdictRows : ℕ → Task → Entry → ℕ → ℕ → List (Bool × Verdict)
+verdictRows n k e index v =
     -- 106 per table
-    (refusesAct act, Denied NoTask)
+    (refusesAct (k .act), Denied NoTask)
     -- for tasks 6, 7, 8, 11, 12: 4 not an array and index over 1
-    ∷ (lacksArray array elements index, Denied NoArray)
+    ∷ (lacksArray k e index, Denied NoArray)
     -- 3 array and index not below its element count
-    ∷ (lacksElement array elements index, Denied NoElement)
+    ∷ (lacksElement k e index, Denied NoElement)
     -- for changes: 5 word task on a double parameter or the reverse
-    ∷ (changesAct act && differsWidth width double, Denied OtherWidth)
+    ∷ (changesAct (k .act) && differsWidth (k .width) (e .double), Denied OtherWidth)
     -- 102 double parameter in a three-word area, except task 9
-    ∷ (lacksRoom double n (countsAct act), Denied NoRoom)
+    ∷ (lacksRoom n k e, Denied NoRoom)
     -- for changes: 1 not writable
-    ∷ (changesAct act && not writable, Denied NotWritable)
+    ∷ (changesAct (k .act) && not (e .writable), Denied NotWritable)
     -- 2 outside limits
-    ∷ (changesAct act && not inside, Denied OutsideLimits)
+    ∷ (changesAct (k .act) && not (isWithin e v), Denied OutsideLimits)
     ∷ []
 
-unfoldable pub verdictOf : Act → Width → Bool → ℕ → Bool → Bool → Bool → ℕ → ℕ → Verdict
-verdictOf act width array elements double writable inside index n =
-    firstOf (verdictRows act width array elements double writable inside index n) Granted
+unfoldable pub verdictOf : ℕ → Task → Entry → ℕ → ℕ → Verdict
+verdictOf n k e index v = firstOf (verdictRows n k e index v) Granted
 
 -- a task whose index names an element means that element of an array; any other the first element (ours)
-unfoldable pub elementOf : Bool → ℕ → ℕ → ℕ
-elementOf array elements index = cond (array && not (eqb elements 0)) index 0
+unfoldable pub elementOf : Task → Entry → ℕ → ℕ
+elementOf k e index = cond (k .array && not (eqb (e .elements) 0)) index 0

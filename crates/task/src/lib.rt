@@ -1,9 +1,11 @@
 // Tasks (document 01, Parameter area): what a task ID asks, and the errors of a task on a parameter, in the document's order.
 ghost use mathlib.Core.Path.{_≡_};
+ghost use mathlib.Core.Bool.{false, cond};
 ghost use Rattle.task.specs.Task.{taskRow, taskOf};
-ghost use Rattle.task.specs.declared.Width.the-variants.{Word, Double};
-ghost use Rattle.task.specs.Verdict.{refusesAct, changesAct, countsAct, differsWidth, lacksArray, lacksElement, lacksRoom, verdictOf, errorNumber, elementOf};
-ghost use mathlib.Core.Bool.{cond};
+ghost use Rattle.task.specs.declared.Act.the-variants.{Read, Change};
+ghost use Rattle.task.specs.declared.Width.the-variants.{Either, Word, Double};
+ghost use Rattle.task.specs.Verdict.{refusesAct, differsWidth, verdictOf, errorNumber, elementOf};
+use entry::Entry;
 
 // What is to be done. Refuse is for the task IDs that error 106 answers.
 pub enum Act {
@@ -111,30 +113,6 @@ fn refuses(act: Act) -> bool
     }
 }
 
-fn changes(act: Act) -> bool
-    ensures { λ r. ⌜ r ≡ changesAct act ⌝ }
-{
-    match act {
-        Act::Nothing => false,
-        Act::Read => false,
-        Act::Change => true,
-        Act::Count => false,
-        Act::Refuse => false,
-    }
-}
-
-fn counts(act: Act) -> bool
-    ensures { λ r. ⌜ r ≡ countsAct act ⌝ }
-{
-    match act {
-        Act::Nothing => false,
-        Act::Read => false,
-        Act::Change => false,
-        Act::Count => true,
-        Act::Refuse => false,
-    }
-}
-
 // A word task on a double parameter, or the reverse.
 fn differs(width: Width, double: bool) -> bool
     ensures { λ r. ⌜ r ≡ differsWidth width double ⌝ }
@@ -146,73 +124,75 @@ fn differs(width: Width, double: bool) -> bool
     }
 }
 
-fn lacks_array(array: bool, elements: u8, index: u8) -> bool
-    ensures { λ r. ⌜ r ≡ lacksArray array elements index ⌝ }
+// Error 102, where neither index nor value is asked.
+fn judge_room(n: u8, e: Entry) -> Verdict
+    ensures { λ r. ⌜ r ≡ verdictOf n (taskRow Read Either false 0) e 0 0 ⌝ }
 {
-    array && (elements == 0 && 1 < index)
-}
-
-fn lacks_element(array: bool, elements: u8, index: u8) -> bool
-    ensures { λ r. ⌜ r ≡ lacksElement array elements index ⌝ }
-{
-    array && (elements != 0 && elements <= index)
-}
-
-fn lacks_room(double: bool, n: u8, count: bool) -> bool
-    ensures { λ r. ⌜ r ≡ lacksRoom double n count ⌝ }
-{
-    double && (n == 3 && !count)
-}
-
-// The first error that applies to a task on a parameter that exists, in the document's order.
-pub fn judge(
-    act: Act,
-    width: Width,
-    array: bool,
-    elements: u8,
-    double: bool,
-    writable: bool,
-    inside: bool,
-    index: u8,
-    n: u8,
-) -> Verdict
-    ensures { λ r. ⌜ r ≡ verdictOf act width array elements double writable inside index n ⌝ }
-{
-    if refuses(act) {
-        return Verdict::Denied(ParameterError::NoTask);
-    }
-    if lacks_array(array, elements, index) {
-        return Verdict::Denied(ParameterError::NoArray);
-    }
-    if lacks_element(array, elements, index) {
-        return Verdict::Denied(ParameterError::NoElement);
-    }
-    let change = changes(act);
-    if change {
-        if differs(width, double) {
-            return Verdict::Denied(ParameterError::OtherWidth);
-        }
-    }
-    if lacks_room(double, n, counts(act)) {
-        return Verdict::Denied(ParameterError::NoRoom);
-    }
-    if change {
-        if !writable {
-            return Verdict::Denied(ParameterError::NotWritable);
-        }
-        if !inside {
-            return Verdict::Denied(ParameterError::OutsideLimits);
+    if e.double {
+        if n == 3 {
+            return Verdict::Denied(ParameterError::NoRoom);
         }
     }
     Verdict::Granted
 }
 
-// The element that a task means: that of its index where the index names one of an array, else the first (ours).
-pub fn pick_element(array: bool, elements: u8, index: u8) -> u8
-    ensures { λ r. ⌜ r ≡ elementOf array elements index ⌝ }
+// The first error of a change whose index names an element that is there: 5, 102, 1, 2.
+fn judge_change(n: u8, width: Width, e: Entry, value: u32) -> Verdict
+    ensures { λ r. ⌜ r ≡ verdictOf n (taskRow Change width false 0) e 0 value ⌝ }
 {
-    if array {
-        if elements != 0 {
+    if differs(width, e.double) {
+        return Verdict::Denied(ParameterError::OtherWidth);
+    }
+    if e.double {
+        if n == 3 {
+            return Verdict::Denied(ParameterError::NoRoom);
+        }
+    }
+    if !e.writable {
+        return Verdict::Denied(ParameterError::NotWritable);
+    }
+    if !entry::within(e, value) {
+        return Verdict::Denied(ParameterError::OutsideLimits);
+    }
+    Verdict::Granted
+}
+
+// The first error that applies to a task with its index and the value that it carries, in an area of n words, on the parameter of a
+// record.
+pub fn judge(n: u8, task: Task, e: Entry, index: u8, value: u32) -> Verdict
+    ensures { λ r. ⌜ r ≡ verdictOf n task e index value ⌝ }
+{
+    let act = task.act;
+    let width = task.width;
+    if refuses(act) {
+        return Verdict::Denied(ParameterError::NoTask);
+    }
+    if task.array {
+        if e.elements == 0 {
+            if 1 < index {
+                return Verdict::Denied(ParameterError::NoArray);
+            }
+        } else {
+            if e.elements <= index {
+                return Verdict::Denied(ParameterError::NoElement);
+            }
+        }
+    }
+    match act {
+        Act::Nothing => judge_room(n, e),
+        Act::Read => judge_room(n, e),
+        Act::Change => judge_change(n, width, e, value),
+        Act::Count => Verdict::Granted,
+        Act::Refuse => Verdict::Denied(ParameterError::NoTask),
+    }
+}
+
+// The element that a task means: that of its index where the index names one of an array, else the first (ours).
+pub fn pick_element(task: Task, e: Entry, index: u8) -> u8
+    ensures { λ r. ⌜ r ≡ elementOf task e index ⌝ }
+{
+    if task.array {
+        if e.elements != 0 {
             return index;
         }
     }

@@ -8,11 +8,15 @@ use Rattle.task.proofs.pick_element.Lts as lts
 
 returns : tie.Need-returns
 unfolding elementOf
-returns c = rw (c .before .if1 .taken, ne-eqb _ _ (c .if2 .taken))
+returns c =
+    let then1 : tie.Then1 = search in
+    rw (then1 .if1 .taken, ne-eqb _ _ (c .if2 .taken))
 
 returns-2 : tie.Need-returns-2
 unfolding elementOf
-returns-2 c = rw (c .before .if1 .taken, eq-eqb _ _ (c .if2 .left))
+returns-2 c =
+    let then1 : tie.Then1 = search in
+    rw (then1 .if1 .taken, eq-eqb _ _ (c .if2 .left))
 
 returns-3 : tie.Need-returns-3
 unfolding elementOf

@@ -1,0 +1,26 @@
+-- `task::judge_room` meets its contract. Assumes nothing.
+use borrow.Author.Tests.{eq-eqb, ne-eqb}
+use Rattle.task.specs.Verdict.{verdictOf}
+use Rattle.task.proofs.judge_room.Statement.{statement}
+use Rattle.task.proofs.judge_room.Tie as tie
+use Rattle.task.proofs.judge_room.Reads as reads
+use Rattle.task.proofs.judge_room.Lts as lts
+
+returns : tie.Need-returns
+unfolding verdictOf
+returns c =
+    let then1 : tie.Then1 = search in
+    rw (then1 .if1 .taken, eq-eqb _ _ (c .if2 .taken))
+
+returns-2 : tie.Need-returns-2
+unfolding verdictOf
+returns-2 c =
+    let then1 : tie.Then1 = search in
+    rw (then1 .if1 .taken, ne-eqb _ _ (c .if2 .left))
+
+returns-3 : tie.Need-returns-3
+unfolding verdictOf
+returns-3 c = rw (c .if1 .left)
+
+pub judge-room-spec : {M : Type 1} → statement M
+judge-room-spec = tie.close (tie.spec returns returns-2 returns-3)
