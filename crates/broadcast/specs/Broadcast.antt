@@ -21,7 +21,7 @@ abbrev pub selectsSecond : ℕ → Bool
 selectsSecond selector = eqb (bit 2 selector) 1
 
 -- void unless PKW and PZD are not 0, the first word is selected, its mask and the received word both have bit 10, no selector
--- bit names another word (bit 0, ours, and bits 3 to 15) or one not configured, and a fourth PKW word is 0
+-- bit names another word (bits 3 to 15, and bit 0, ours: docs/DECISIONS.md) or one not configured, and a fourth PKW word is 0
 abbrev pub voidRows : Command → ℕ → ℕ → ℕ → List (Bool × Bool)
 voidRows c pkw pzd first =
     (eqb pkw 0, true)
