@@ -1,2 +1,4 @@
--- Laws of areas that are read.
+-- Laws of areas, as words and as they are read.
 pub mod AreaLaws
+pub mod WordLaws
+pub mod StandLaws

@@ -1,2 +1,3 @@
--- The areas of a telegram, as they are read.
+-- The areas of a telegram, as words and as they are read.
+pub mod Net
 pub mod Read

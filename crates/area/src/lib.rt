@@ -52,7 +52,7 @@ fn word_at(t: &[u8], at: usize) -> u16
 
 // The value of an area of n words: that of its last two words, or of its one.
 fn value_at(t: &[u8], n: u8) -> u32
-    ensures { λ r. ⌜ r ≡ valueAt (now (t .entry)) (n - 2) ⌝ }
+    ensures { λ r. ⌜ r ≡ valueAt (now (t .entry)) 7 (n - 2) ⌝ }
 {
     if n < 3 {
         return 0;

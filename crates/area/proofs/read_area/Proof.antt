@@ -28,10 +28,14 @@ word-in-requires-4 c κs = search needs
 
 returns : tie.Need-returns
 returns c =
-    let j = c .before .before in
-    let t = j .before .before .before .before in
-    let k = t .before in
-    rw (t .if1 .taken, area-four (k .before .args .t .now) (λ i. k .shared-slice-known .given i .fits), j .join-double .ensures, j .before .before .word-in .ensures, j .before .word-in2 .ensures, c .before .word-in3 .ensures, c .word-in4 .ensures)
+    let after-word-in3 : tie.After-word-in3 = search in
+    let j : tie.After-join-double = search in
+    let after-word-in2 : tie.After-word-in2 = search in
+    let after-word-in : tie.After-word-in = search in
+    let t : tie.Then1 = search in
+    let k : tie.After-shared-slice-known = search in
+    let start : tie.Start = search in
+    rw (t .if1 .taken, area-four (start .args .t .now) (λ i. k .shared-slice-known .given i .fits), j .join-double .ensures, after-word-in .word-in .ensures, after-word-in2 .word-in2 .ensures, after-word-in3 .word-in3 .ensures, c .word-in4 .ensures)
 
 value-at-requires : tie.Need-value-at-requires
 value-at-requires c κs = search needs
@@ -44,7 +48,10 @@ word-at-requires-2 c κs = search needs
 
 returns-2 : tie.Need-returns-2
 unfolding areaAt
-returns-2 c = rw (c .before .before .value-at .ensures, c .before .word-at .ensures, c .word-at2 .ensures)
+returns-2 c =
+    let after-word-at : tie.After-word-at = search in
+    let after-value-at : tie.After-value-at = search in
+    rw (after-value-at .value-at .ensures, after-word-at .word-at .ensures, c .word-at2 .ensures)
 
 pub read-area-spec : {M : Type 1} → statement M
 read-area-spec =

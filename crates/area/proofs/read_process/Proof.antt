@@ -36,7 +36,11 @@ take-word-requires-4 c κs = search needs
 
 returns : tie.Need-returns
 unfolding processAt
-returns c = rw (c .before .before .before .take-word .ensures, c .before .before .take-word2 .ensures, c .before .take-word3 .ensures, c .take-word4 .ensures)
+returns c =
+    let after-take-word3 : tie.After-take-word3 = search in
+    let after-take-word2 : tie.After-take-word2 = search in
+    let after-take-word : tie.After-take-word = search in
+    rw (after-take-word .take-word .ensures, after-take-word2 .take-word2 .ensures, after-take-word3 .take-word3 .ensures, c .take-word4 .ensures)
 
 pub read-process-spec : {M : Type 1} → statement M
 read-process-spec =

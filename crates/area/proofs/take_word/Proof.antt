@@ -10,7 +10,9 @@ word-at-requires : tie.Need-word-at-requires
 word-at-requires c κs = search needs
 
 returns : tie.Need-returns
-returns c = rw (c .before .if1 .taken) (c .word-at .ensures)
+returns c =
+    let then1 : tie.Then1 = search in
+    rw (then1 .if1 .taken) (c .word-at .ensures)
 
 returns-2 : tie.Need-returns-2
 returns-2 c = search needs

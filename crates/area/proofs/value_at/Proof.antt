@@ -15,7 +15,8 @@ use Rattle.words.proofs.join_double.Reads as join-double-reads
 returns : tie.Need-returns
 unfolding valueAt
 returns c =
-    let none : c .before .before .args .n - 2 ≡ 0 = omega arith in
+    let start : tie.Start = search in
+    let none : start .args .n - 2 ≡ 0 = omega arith in
     rw none
 
 word-at-requires : tie.Need-word-at-requires
@@ -25,7 +26,9 @@ cast-result : tie.Need-cast-result
 cast-result c = search needs
 
 returns-2 : tie.Need-returns-2
-returns-2 c = rw (c .before .if2 .taken) (c .word-at .ensures ∙ sym (value-one _))
+returns-2 c =
+    let then2 : tie.Then2 = search in
+    rw (then2 .if2 .taken) (c .word-at .ensures ∙ sym (value-one _))
 
 mul-at : tie.Need-mul-at
 mul-at c = search needs
@@ -47,10 +50,12 @@ join-double-requires c κs = search needs
 
 returns-3 : tie.Need-returns-3
 returns-3 c =
-    let w = c .before in
-    let k = w .before .before .before .before in
-    let n = k .before .args .n in
-    rw (c .join-double .ensures, w .before .word-at2 .ensures, w .word-at3 .ensures) (sym (value-last _ (n - 2) (n * 2 - 1) (λ i. k .shared-slice-known .given i .fits) (omega arith) (omega arith)))
+    let w : tie.After-word-at3 = search in
+    let after-word-at2 : tie.After-word-at2 = search in
+    let k : tie.After-shared-slice-known = search in
+    let start : tie.Start = search in
+    let n = start .args .n in
+    rw (c .join-double .ensures, after-word-at2 .word-at2 .ensures, w .word-at3 .ensures) (sym (value-last _ 7 (n - 2) (n * 2 - 1) (λ i. k .shared-slice-known .given i .fits) (omega arith) (omega arith)))
 
 pub value-at-spec : {M : Type 1} → statement M
 value-at-spec =

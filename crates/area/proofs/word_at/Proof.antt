@@ -29,14 +29,16 @@ join-requires c κs = search needs
 
 returns-2 : tie.Need-returns-2
 returns-2 c =
-    let e = c .before .before .before in
-    let a = e .before .before .args in
+    let e : tie.Else1 = search in
+    let start : tie.Start = search in
+    let a = start .args in
     let past : byteAt (a .t .now) (a .at + 1) ≡ 0 = List·getD-eq-default (a .t .now) 0 (omega (arith, e .if1 .left)) in
     omega (arith, c .join .ensures)
 
 returns-3 : tie.Need-returns-3
 returns-3 c =
-    let a = c .before .before .before .args in
+    let start : tie.Start = search in
+    let a = start .args in
     let here : byteAt (a .t .now) (a .at) ≡ 0 = List·getD-eq-default (a .t .now) 0 (c .if2 .left) in
     let past : byteAt (a .t .now) (a .at + 1) ≡ 0 = List·getD-eq-default (a .t .now) 0 (omega (arith, c .if2 .left)) in
     omega arith

@@ -21,20 +21,25 @@ returns-2 c = search (tests, or-true)
 
 returns-3 : tie.Need-returns-3
 unfolding setupOk
-returns-3 c = search (tests, not-true (eqb (c .before .before .before .before .before .before .before .before .args .setup .pkw) 4) (c .if5 .taken))
+returns-3 c =
+    let start : tie.Start = search in
+    search (tests, not-true (eqb (start .args .setup .pkw) 4) (c .if5 .taken))
 
 returns-4 : tie.Need-returns-4
 unfolding setupOk
 returns-4 c =
-    let a = c .before .before .before .before in
-    let s = a .before .args .setup in
-    let node = le-ltb 31 (s .node) (c .before .before .before .if1 .left) in
+    let joined2 : tie.Joined2 = search in
+    let else1 : tie.Else1 = search in
+    let a : tie.After-struct-known = search in
+    let start : tie.Start = search in
+    let s = start .args .setup in
+    let node = le-ltb 31 (s .node) (else1 .if1 .left) in
     let few = or-false (ltb 4 (s .pzd)) in
     rw (leb-not-ltb (s .pzd) 4, node)
     (⊎-elim (λ w. rw (eq-eqb (s .pkw) 0 (w .0 .taken), ne-eqb (s .pzd) 0 (w .2 .left), few))
     (λ v. rw (ne-eqb (s .pkw) 0 (v .0 .left))
     (⊎-elim (λ w. rw (not-false (eqb (s .pkw) 4) (w .2 .left), or-true (eqb (s .pkw) 3), few)) (λ w. rw (eq-eqb (s .pkw) 3 (w .left), few)) (v .2 .came)))
-    (c .before .if2 .came))
+    (joined2 .if2 .came))
 
 pub setup-ok-spec : {M : Type 1} → statement M
 setup-ok-spec = tie.close (tie.spec returns returns-2 returns-3 returns-4)
