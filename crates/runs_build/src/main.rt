@@ -1,25 +1,8 @@
 // Builds of requests, a line for each: document 01's number, the length, the telegram's bytes.
-use answers::BuildAnswer;
-use answers::BuildFault;
 use master::Built;
 use request::Request;
 use setup::Setup;
 use words::Words;
-
-fn build_number(answer: BuildAnswer) -> u64 {
-    match answer {
-        BuildAnswer::Done => 0,
-        BuildAnswer::Refused(fault) => build_fault_number(fault),
-    }
-}
-
-fn build_fault_number(fault: BuildFault) -> u64 {
-    match fault {
-        BuildFault::BadSetup => 30,
-        BuildFault::NotExpressible => 31,
-        BuildFault::ShortBuffer => 32,
-    }
-}
 
 fn show_number(n: u64) {
     io::print_decimal(1, n);
@@ -41,7 +24,7 @@ fn show_bytes(t: &[u8], n: usize) {
 
 fn show_built(built: Built, out: &[u8]) {
     let answer = built.answer;
-    show_number(build_number(answer));
+    show_number(answers::number_built(answer) as u64);
     show_number(built.length as u64);
     show_bytes(out, built.length);
     io::write_all(1, b"\n");

@@ -1,30 +1,20 @@
 // Runs the opening check and writes a line for each group of cases: a label, and document 01's number of each case, 0 where
 // nothing is refused.
 // Kinds of a parameter: 0 word, 2 signed word, 4 double, 6 signed double; 1 more where it is writable.
-use answers::OpeningFault;
 use opening::Opening;
 use opening::open;
 use setup::Setup;
 
-fn fault_number(fault: OpeningFault) -> u64 {
-    match fault {
-        OpeningFault::BadSetup => 20,
-        OpeningFault::BadTable => 21,
-        OpeningFault::BadValues => 22,
-        OpeningFault::ShortBuffer => 23,
-    }
-}
-
-fn answer_number(answer: Opening) -> u64 {
+fn answer_number(answer: Opening) -> u32 {
     match answer {
         Opening::Passed => 0,
-        Opening::Closed(fault) => fault_number(fault),
+        Opening::Closed(fault) => answers::number_opening(fault),
     }
 }
 
 fn show(answer: Opening) {
     io::write_all(1, b" ");
-    io::print_decimal(1, answer_number(answer));
+    io::print_decimal(1, answer_number(answer) as u64);
 }
 
 fn usual() -> Setup {

@@ -1,25 +1,12 @@
 // Readings of replies, a line for each: document 01's number, reply ID, value or error number, process words.
 use answers::Content;
 use answers::ReadAnswer;
-use answers::ReadFault;
-use frame::number_fault;
 use request::Request;
 use setup::Setup;
 use words::Words;
 
 // K3 of document 01: the reply to K2.
 const K3: [u8; 16] = *b"\x02\x0e\x03\x14\x3a\x00\x00\x00\x00\x13\x88\x03\x31\x20\x00\xa8";
-
-fn read_fault_number(fault: ReadFault) -> u64 {
-    match fault {
-        ReadFault::UnfitSetup => 30,
-        ReadFault::NotAsked => 31,
-        ReadFault::InTelegram(fault) => number_fault(fault) as u64,
-        ReadFault::OtherNode => 16,
-        ReadFault::OtherLength => 17,
-        ReadFault::NotTheReply => 33,
-    }
-}
 
 fn show_number(n: u64) {
     io::print_decimal(1, n);
@@ -29,29 +16,15 @@ fn show_number(n: u64) {
 // The number 0, a reply ID and a value.
 fn show_content(content: Content) {
     io::write_all(1, b"0 ");
-    match content {
-        Content::Empty => {
-            io::write_all(1, b"0 0 ");
-        }
-        Content::Value { id, value } => {
-            show_number(id as u64);
-            show_number(value as u64);
-        }
-        Content::Failed { error } => {
-            io::write_all(1, b"7 ");
-            show_number(error as u64);
-        }
-        Content::NoRight => {
-            io::write_all(1, b"8 0 ");
-        }
-    }
+    show_number(answers::content_id(content) as u64);
+    show_number(answers::content_value(content) as u64);
 }
 
 fn show_answer(answer: ReadAnswer) {
     match answer {
         ReadAnswer::Read(content) => show_content(content),
         ReadAnswer::Unread(fault) => {
-            show_number(read_fault_number(fault));
+            show_number(answers::number_read_fault(fault) as u64);
             io::write_all(1, b"0 0 ");
         }
     }

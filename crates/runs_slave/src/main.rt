@@ -1,10 +1,6 @@
 // Runs the slave call on telegrams of documents 000, 002 and 01, and writes a line for each: the set-up, the received bytes,
 // document 01's answer number, the reply's length and bytes, the control words, and each value place that is not as it was.
-use answers::Answer;
-use answers::OpeningFault;
-use answers::Refusal;
 use area::Area;
-use frame::number_fault;
 use setup::Setup;
 use slave::serve;
 use words::Words;
@@ -48,36 +44,6 @@ const READ_1082: [u8; 16] = *b"\x02\x0e\x03\x14\x3a\x00\x00\x00\x00\x00\x00\x00\
 const SET_BITS: [u8; 16] = *b"\x02\x0e\x20\x00\x06\x04\x01\x00\x0f\x00\x00\x04\x00\x00\x0a\x2e";
 
 const READ_ELEMENT: [u8; 16] = *b"\x02\x0e\x03\x60\x00\x80\x01\x00\x00\x00\x00\x00\x00\x00\x00\xee";
-
-// ---- answers
-
-fn opening_number(fault: OpeningFault) -> u64 {
-    match fault {
-        OpeningFault::BadSetup => 20,
-        OpeningFault::BadTable => 21,
-        OpeningFault::BadValues => 22,
-        OpeningFault::ShortBuffer => 23,
-    }
-}
-
-fn refusal_number(refusal: Refusal) -> u64 {
-    match refusal {
-        Refusal::AtOpening(fault) => opening_number(fault),
-        Refusal::InTelegram(fault) => number_fault(fault) as u64,
-        Refusal::OtherNode => 16,
-        Refusal::OtherLength => 17,
-        Refusal::VoidBroadcast => 18,
-    }
-}
-
-fn answer_number(answer: Answer) -> u64 {
-    match answer {
-        Answer::Replied => 0,
-        Answer::Mirrored => 1,
-        Answer::Taken => 2,
-        Answer::Refused(refusal) => refusal_number(refusal),
-    }
-}
 
 // ---- lines
 
@@ -134,9 +100,9 @@ fn print_setup(setup: Setup) {
     io::write_all(1, b" ");
 }
 
-fn print_answer(number: u64, length: usize) {
+fn print_answer(number: u32, length: usize) {
     io::write_all(1, b": ");
-    io::print_decimal(1, number);
+    io::print_decimal(1, number as u64);
     io::write_all(1, b", ");
     io::print_decimal(1, length as u64);
     if length != 0 {
@@ -179,7 +145,7 @@ fn call(
     let answer = served.answer;
     print_setup(setup);
     print_bytes(received, received.len());
-    print_answer(answer_number(answer), served.length);
+    print_answer(answers::number_answer(answer), served.length);
     print_bytes(&reply[..], served.length);
     print_control(next);
     print_changes(&values[..], old);
