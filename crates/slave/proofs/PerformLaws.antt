@@ -29,6 +29,7 @@ use Rattle.page.specs.Page.{baseOf, fullNumber}
 use Rattle.task.specs.Verdict.{changesAct, lacksElement, verdictOf, elementOf}
 use Rattle.task.proofs.TaskLaws.{refused-on}
 use Rattle.task.proofs.VerdictLaws.{granted-clear}
+use Rattle.opening.specs.Lent.{Memory}
 use Rattle.slave.specs.Perform.{readReply, carried, errorArea, doneOf, verdictFor, performOn, performFound, performTask, foundOf, idle}
 
 pub read-reply-le : (reply : ℕ) (double : Bool) → reply ≤ 14 → readReply reply double ≤ 15
@@ -97,27 +98,27 @@ task-busy id some = go (decLt id 15)
         id (omega arith) h
     go (no h) = rw (refused-on id (omega arith))
 
-module _ (n : ℕ) (k : Task) (a : Area) (e : Entry) (vs : List ℕ) (first : ℕ) where
-  pub task-denied : (error : ParameterError) → verdictFor n k a e ≡ Denied error → performOn n k a e vs first ≡ record { area = errorArea a error; values = vs }
+module _ (n : ℕ) (k : Task) (a : Area) (e : Entry) (m : Memory) (first : ℕ) where
+  pub task-denied : (error : ParameterError) → verdictFor n k a e ≡ Denied error → performOn n k a e m first ≡ record { area = errorArea a error; memory = m }
   unfolding performOn
   task-denied error h = rw h
 
   pub task-granted : verdictFor n k a e ≡ Granted
-      → performOn n k a e vs first
-      ≡ doneOf (k .act) (k .reply) a (e .double) (e .elements) (carried (k .width) (a .value)) vs (first + elementOf (k .array) (e .elements) (a .ind % 256))
+      → performOn n k a e m first
+      ≡ doneOf (k .act) (k .reply) a (e .double) (e .elements) (carried (k .width) (a .value)) m (first + elementOf (k .array) (e .elements) (a .ind % 256))
   unfolding performOn
   task-granted h = rw h
 
-  pub granted-place : verdictFor n k a e ≡ Granted → first + countOf e ≤ length vs → first + elementOf (k .array) (e .elements) (a .ind % 256) < length vs
+  pub granted-place : verdictFor n k a e ≡ Granted → first + countOf e ≤ length (m .values) → first + elementOf (k .array) (e .elements) (a .ind % 256) < length (m .values)
   unfolding countOf
   granted-place h f =
       omega (arith, granted-element (k .act) (k .width) (k .array) (e .elements) (e .double) (e .writable) (isWithin e (carried (k .width) (a .value))) (a .ind % 256) n h)
 
-module _ (n : ℕ) (k : Task) (t vs : List ℕ) (a : Area) where
-  pub task-unnamed : idle (k .act) ≡ false → 2000 ≤ baseOf (a .pke) → performTask n k t vs a ≡ record { area = errorArea a NoParameter; values = vs }
+module _ (n : ℕ) (k : Task) (t : List ℕ) (m : Memory) (a : Area) where
+  pub task-unnamed : idle (k .act) ≡ false → 2000 ≤ baseOf (a .pke) → performTask n k t m a ≡ record { area = errorArea a NoParameter; memory = m }
   unfolding foundOf
   task-unnamed i h = rw (i, le-ltb _ _ h)
 
-  pub task-found : (f : Found) → idle (k .act) ≡ false → baseOf (a .pke) < 2000 → findIn t (fullNumber (a .pke) (a .ind)) ≡ f → performTask n k t vs a ≡ performFound n k a t vs f
+  pub task-found : (f : Found) → idle (k .act) ≡ false → baseOf (a .pke) < 2000 → findIn t (fullNumber (a .pke) (a .ind)) ≡ f → performTask n k t m a ≡ performFound n k a t m f
   unfolding foundOf
   task-found f i h e = rw (i, lt-ltb _ _ h, e)

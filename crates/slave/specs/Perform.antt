@@ -4,17 +4,19 @@
 --     doneOf act ..           what an act does where no error applies
 --     performOn n k a e ..    the task k on a record e: the first error that applies, or the act
 --     foundOf t a             the record that the area a names
---     performOf n t vs a      the task in an area a of n words, on the table t and the values vs
+--     performOf n t m a       the task in an area a of n words, on the table t and the memory m
+--     taskDone n t m rx       the task of a telegram rx whose area has n words
 use Prim.Native.Nat.{ℕ, _+_, _*_, _/_, _%_}
 use mathlib.Core.Path.{_≡_}
 use mathlib.Core.Bool.{Bool, true, false, cond}
 use mathlib.Core.List.{List}
 use lib.Dec.{eqb}
-use lib.ListN.{getD, set}
+use lib.ListN.{getD}
 use Rattle.area.specs.declared.Area.{Area}
-use Rattle.area.specs.Read.{emptyArea}
+use Rattle.area.specs.Read.{emptyArea, areaAt}
 use Rattle.entry.specs.declared.Entry.{Entry}
 use Rattle.entry.specs.Limits.{isWithin}
+use Rattle.opening.specs.Lent.{Memory, stored}
 use Rattle.table.specs.declared.Found.{Found}
 use Rattle.table.specs.declared.Found.the-variants.{At, Nothing}
 use Rattle.table.specs.Records.{entryAt, findIn, firstPlace}
@@ -44,16 +46,16 @@ errorArea a error = replyArea a 7 (errorNumber error)
 
 pub record Performed : Type 0 where
   pub area : Area
-  pub values : List ℕ
+  pub memory : Memory
 
--- what a task that returns the area a leaves in the values
-pub record Performs (p : Performed) (a : Area) (vs : List ℕ) : Type 0 where
+-- what a task that returns the area a leaves in the memory
+pub record Performs (p : Performed) (a : Area) (m : Memory) : Type 0 where
   pub area-is : a ≡ p .area
-  pub values-are : vs ≡ p .values
+  pub memory-is : m ≡ p .memory
 
 -- nothing is done, and the whole area is 0
-abbrev pub nothingDone : List ℕ → Performed
-nothingDone vs = record { area = emptyArea; values = vs }
+abbrev pub nothingDone : Memory → Performed
+nothingDone m = record { area = emptyArea; memory = m }
 
 -- a word task carries a word: PWE1 of a four-word area is ignored
 abbrev pub carried : Width → ℕ → ℕ
@@ -71,17 +73,17 @@ elementCount elements = cond (eqb elements 0) 1 elements
 
 -- what an act does where no error applies: v is the value that the task carries, `place` the place that it means. Idle and Refuse
 -- are not met here: task 0 is answered before (performTask), and 106 is an error (verdictOf)
-abbrev pub doneOf : Act → ℕ → Area → Bool → ℕ → ℕ → List ℕ → ℕ → Performed
-doneOf Idle reply a double elements v vs place = nothingDone vs
-doneOf Read reply a double elements v vs place = record { area = replyArea a (readReply reply double) (getD vs place 0); values = vs }
-doneOf Change reply a double elements v vs place = record { area = replyArea a reply v; values = set vs place v }
-doneOf Count reply a double elements v vs place = record { area = replyArea a reply (elementCount elements); values = vs }
-doneOf Refuse reply a double elements v vs place = record { area = errorArea a NoTask; values = vs }
+abbrev pub doneOf : Act → ℕ → Area → Bool → ℕ → ℕ → Memory → ℕ → Performed
+doneOf Idle reply a double elements v m place = nothingDone m
+doneOf Read reply a double elements v m place = record { area = replyArea a (readReply reply double) (getD (m .values) place 0); memory = m }
+doneOf Change reply a double elements v m place = record { area = replyArea a reply v; memory = stored m place v }
+doneOf Count reply a double elements v m place = record { area = replyArea a reply (elementCount elements); memory = m }
+doneOf Refuse reply a double elements v m place = record { area = errorArea a NoTask; memory = m }
 
 -- an error changes no value
-abbrev pub answered : Verdict → Area → List ℕ → Performed → Performed
-answered Granted a vs done = done
-answered (Denied error) a vs done = record { area = errorArea a error; values = vs }
+abbrev pub answered : Verdict → Area → Memory → Performed → Performed
+answered Granted a m done = done
+answered (Denied error) a m done = record { area = errorArea a error; memory = m }
 
 -- the verdict on a task in an area a of n words, on a record
 abbrev pub verdictFor : ℕ → Task → Area → Entry → Verdict
@@ -89,15 +91,15 @@ verdictFor n k a e =
     verdictOf (k .act) (k .width) (k .array) (e .elements) (e .double) (e .writable) (isWithin e (carried (k .width) (a .value))) (a .ind % 256) n
 
 -- a task on a record whose first value place is `first`
-unfoldable pub performOn : ℕ → Task → Area → Entry → List ℕ → ℕ → Performed
-performOn n k a e vs first =
-    answered (verdictFor n k a e) a vs
-    (doneOf (k .act) (k .reply) a (e .double) (e .elements) (carried (k .width) (a .value)) vs
+unfoldable pub performOn : ℕ → Task → Area → Entry → Memory → ℕ → Performed
+performOn n k a e m first =
+    answered (verdictFor n k a e) a m
+    (doneOf (k .act) (k .reply) a (e .double) (e .elements) (carried (k .width) (a .value)) m
     (first + elementOf (k .array) (e .elements) (a .ind % 256)))
 
-abbrev pub performFound : ℕ → Task → Area → List ℕ → List ℕ → Found → Performed
-performFound n k a t vs Nothing = record { area = errorArea a NoParameter; values = vs }
-performFound n k a t vs (At j) = performOn n k a (entryAt t j) vs (firstPlace t j)
+abbrev pub performFound : ℕ → Task → Area → List ℕ → Memory → Found → Performed
+performFound n k a t m Nothing = record { area = errorArea a NoParameter; memory = m }
+performFound n k a t m (At j) = performOn n k a (entryAt t j) m (firstPlace t j)
 
 -- a base of 2000 to 2047 names no parameter
 unfoldable pub foundOf : List ℕ → Area → Found
@@ -111,8 +113,12 @@ idle Count = false
 idle Refuse = false
 
 -- task 0 does nothing, and no error is looked for
-abbrev pub performTask : ℕ → Task → List ℕ → List ℕ → Area → Performed
-performTask n k t vs a = cond (idle (k .act)) (nothingDone vs) (performFound n k a t vs (foundOf t a))
+abbrev pub performTask : ℕ → Task → List ℕ → Memory → Area → Performed
+performTask n k t m a = cond (idle (k .act)) (nothingDone m) (performFound n k a t m (foundOf t a))
 
-unfoldable pub performOf : ℕ → List ℕ → List ℕ → Area → Performed
-performOf n t vs a = performTask n (taskOf (a .pke / 4096)) t vs a
+unfoldable pub performOf : ℕ → List ℕ → Memory → Area → Performed
+performOf n t m a = performTask n (taskOf (a .pke / 4096)) t m a
+
+-- the parameter task runs if there is an area
+unfoldable pub taskDone : ℕ → List ℕ → Memory → List ℕ → Performed
+taskDone n t m rx = cond (eqb n 0) (nothingDone m) (performOf n t m (areaAt rx n))

@@ -1,22 +1,25 @@
 // The slave (document 01, Slave): one call takes a received page, runs its task on the lent values, and answers.
 ghost use mathlib.Core.Path.{_≡_};
-ghost use mathlib.Core.Bool.{true, not, _||_};
-ghost use Prim.Native.Nat.{_+_, _*_, _≤_, _<_};
+ghost use mathlib.Core.Bool.{not, _||_};
+ghost use mathlib.Core.List.{List};
+ghost use Prim.Native.Nat.{ℕ, _+_, _*_, _≤_, _<_};
 ghost use lib.ListN.{length, set};
+ghost use Rattle.words.specs.declared.Words.{Words};
 ghost use Rattle.entry.specs.Fields.{countOf};
 ghost use Rattle.entry.specs.Limits.{isWithin};
 ghost use Rattle.table.specs.Records.{entryAt, countsOf, entries, firstPlace};
 ghost use Rattle.task.specs.Verdict.{changesAct};
+ghost use Rattle.opening.specs.Lent.{Memory};
 ghost use Rattle.opening.specs.Answers.{openingOf};
 ghost use Rattle.opening.specs.declared.Opening.the-variants.{Passed};
-ghost use Rattle.setup.specs.SetupRules.{setupOk};
-ghost use Rattle.slave.specs.Perform.{replyArea, errorArea, elementCount, carried, readReply, doneOf, performOn, performOf, Performs};
-ghost use Rattle.slave.specs.Slave.{Leaves, refusedServed, taskDone, controlTaken, commandAt, normalCase, mirrorCase, broadcastCase, executeOf, callOf};
+ghost use Rattle.slave.specs.Perform.{replyArea, errorArea, elementCount, carried, readReply, doneOf, performOn, performOf, taskDone, Performs};
+ghost use Rattle.answers.specs.declared.Answer.the-variants.{Refused};
+ghost use Rattle.slave.specs.Slave.{Leaves, normalCase, mirrorCase, broadcastCase, executeOf, callOf};
 use answers::Answer;
 use answers::OpeningFault;
 use answers::Refusal;
 use area::Area;
-use broadcast::Command;
+use control::Commanded;
 use entry::Entry;
 use frame::Decoded;
 use frame::Fault;
@@ -104,7 +107,7 @@ fn run_act(
     place: usize,
 ) -> Area
     requires { ⌜ (reply ≤ 14) × (place < length (now values)) ⌝ }
-    ensures { λ r. ⌜ Performs (doneOf act reply area double elements value (now (values .entry)) place) r (now (values .exit)) ⌝ }
+    ensures { λ r. ⌜ Performs (doneOf act reply area double elements value (record { values = now (values .entry) }) place) r (record { values = now (values .exit) }) ⌝ }
 {
     match act {
         Act::Nothing => area::empty_area(),
@@ -137,7 +140,7 @@ fn is_inside(act: Act, e: Entry, value: u32) -> bool
 // A task on a record whose first value place is `first`: the first error that applies, or the act.
 fn perform_on(n: u8, task: Task, area: Area, e: Entry, values: &mut [u32], first: usize) -> Area
     requires { ⌜ (task .reply ≤ 14) × (first + countOf e ≤ length (now values)) ⌝ }
-    ensures { λ r. ⌜ Performs (performOn n task area e (now (values .entry)) first) r (now (values .exit)) ⌝ }
+    ensures { λ r. ⌜ Performs (performOn n task area e (record { values = now (values .entry) }) first) r (record { values = now (values .exit) }) ⌝ }
 {
     let act = task.act;
     let width = task.width;
@@ -211,7 +214,7 @@ fn first_place(t: &[u8], k: usize, count: usize) -> usize
 // for in it.
 fn perform(n: u8, table: &[u8], values: &mut [u32], area: Area) -> Area
     requires { ⌜ (length (now table) ≤ 6144) × (countsOf (entries (now table)) ≤ length (now values)) ⌝ }
-    ensures { λ r. ⌜ Performs (performOf n (now (table .entry)) (now (values .entry)) area) r (now (values .exit)) ⌝ }
+    ensures { λ r. ⌜ Performs (performOf n (now (table .entry)) (record { values = now (values .entry) }) area) r (record { values = now (values .exit) }) ⌝ }
 {
     let id = (area.pke / 4096) as u8;
     if id == 0 {
@@ -234,7 +237,7 @@ fn perform(n: u8, table: &[u8], values: &mut [u32], area: Area) -> Area
 // The parameter task of a telegram, if PKW is not 0.
 fn run_task(n: u8, table: &[u8], values: &mut [u32], received: &[u8]) -> Area
     requires { ⌜ (length (now table) ≤ 6144) × (countsOf (entries (now table)) ≤ length (now values)) ⌝ }
-    ensures { λ r. ⌜ Performs (taskDone n (now (table .entry)) (now (values .entry)) (now (received .entry))) r (now (values .exit)) ⌝ }
+    ensures { λ r. ⌜ Performs (taskDone n (now (table .entry)) (record { values = now (values .entry) }) (now (received .entry))) r (record { values = now (values .exit) }) ⌝ }
 {
     if n == 0 {
         return area::empty_area();
@@ -245,43 +248,9 @@ fn run_task(n: u8, table: &[u8], values: &mut [u32], received: &[u8]) -> Area
 
 // ---- the call
 
-// The control words after a normal telegram.
-fn take_control(setup: Setup, control: Words, received: &[u8]) -> Words
-    ensures { λ r. ⌜ r ≡ controlTaken setup control (now (received .entry)) ⌝ }
-{
-    let process = area::read_process(received, setup.pkw, setup.pzd, control);
-    if setup.pzd != 0 {
-        if process.w1 / 1024 % 2 == 1 {
-            return process;
-        }
-    }
-    control
-}
-
-// The parameter area of a broadcast, if PKW is not 0.
-fn read_command(received: &[u8], n: u8) -> Command
-    requires { ⌜ ((n ≡ 0 → ⊥) → (3 ≤ n) × (n ≤ 4)) ⌝ }
-    ensures { λ r. ⌜ ((n ≡ 0 → ⊥) → r ≡ commandAt (now (received .entry)) n) ⌝ }
-{
-    let area = area::read_area(received, n);
-    if n == 4 {
-        return Command {
-            selector: area.pke,
-            mask1: area.ind,
-            mask2: (area.value / 65536) as u16,
-            fourth: (area.value % 65536) as u16,
-        };
-    }
-    Command {
-        selector: area.pke,
-        mask1: area.ind,
-        mask2: (area.value % 65536) as u16,
-        fourth: 0,
-    }
-}
-
+// A refusal: length 0, and the given control words.
 fn refuse(refusal: Refusal, control: Words) -> Served
-    ensures { λ r. ⌜ r ≡ refusedServed refusal control ⌝ }
+    ensures { λ r. ⌜ r ≡ record { answer = Refused refusal; length = 0; control = control } ⌝ }
 {
     Served {
         answer: Answer::Refused(refusal),
@@ -302,18 +271,19 @@ fn serve_normal(
     node: u8,
     n: usize,
 ) -> Served
-    requires { ⌜ openingOf setup (now table) (now values) (length (now reply)) ≡ Passed ⌝ }
-    ensures { λ r. ⌜ Leaves (normalCase node n setup (now (table .entry)) (now (values .entry)) control status (now (received .entry)) (now (reply .entry))) r (now (values .exit)) (now (reply .exit)) ⌝ }
+    requires { ⌜ openingOf (record { setup = setup; table = now table; memory = record { values = now values }; room = length (now reply) }) ≡ Passed ⌝ }
+    ensures { λ r. ⌜ Leaves (normalCase node n (record { setup = setup; table = now (table .entry); memory = record { values = now (values .entry) }; control = control; status = status; received = now (received .entry); buffer = now (reply .entry) })) r (record { values = now (values .exit) }) (now (reply .exit)) ⌝ }
 {
     if node != setup.node {
         return refuse(Refusal::OtherNode, control);
     }
-    if n != setup::net_bytes(setup) {
+    if setup::is_other_length(setup, n) {
         return refuse(Refusal::OtherLength, control);
     }
-    let area = run_task(setup.pkw, table, values, received);
-    let next = take_control(setup, control, received);
-    let length = net::write_normal(reply, setup.node, area, setup.pkw, status, setup.pzd);
+    let count = setup::area_count(setup, n);
+    let area = run_task(count, table, values, received);
+    let next = control::take_control(setup, n, control, received);
+    let length = net::write_normal(reply, setup.node, area, count, status, setup.pzd);
     Served {
         answer: Answer::Replied,
         length,
@@ -321,10 +291,10 @@ fn serve_normal(
     }
 }
 
-// A mirror telegram to a node: 16, or the telegram itself.
+// A mirror telegram to a node: 16, or the telegram itself. Table, values and status words are not looked at.
 fn serve_mirror(setup: Setup, control: Words, received: &[u8], reply: &mut [u8], node: u8) -> Served
     requires { ⌜ length (now received) ≤ length (now reply) ⌝ }
-    ensures { λ r. ⌜ (r ≡ mirrorCase node setup control (now (received .entry)) (now (reply .entry)) .served) × (now (reply .exit) ≡ mirrorCase node setup control (now (received .entry)) (now (reply .entry)) .reply) ⌝ }
+    ensures { λ r. ⌜ ((t : List ℕ) (m : Memory) (w : Words) → Leaves (mirrorCase node (record { setup = setup; table = t; memory = m; control = control; status = w; received = now (received .entry); buffer = now (reply .entry) })) r m (now (reply .exit))) ⌝ }
 {
     if node != setup.node {
         return refuse(Refusal::OtherNode, control);
@@ -337,24 +307,20 @@ fn serve_mirror(setup: Setup, control: Words, received: &[u8], reply: &mut [u8],
     }
 }
 
-// A broadcast with n net bytes: 17, 18, or the control words with the masked bits taken. No reply.
+// A broadcast with n net bytes: 17, 18, or the control words with the masked bits taken. No reply, whatever else is lent.
 fn serve_broadcast(setup: Setup, control: Words, received: &[u8], n: usize) -> Served
-    requires { ⌜ setupOk setup ≡ true ⌝ }
-    ensures { λ r. ⌜ r ≡ broadcastCase n setup control (now (received .entry)) ⌝ }
+    ensures { λ r. ⌜ ((t : List ℕ) (m : Memory) (w : Words) (out : List ℕ) → Leaves (broadcastCase n (record { setup = setup; table = t; memory = m; control = control; status = w; received = now (received .entry); buffer = out })) r m out) ⌝ }
 {
-    if n != setup::net_bytes(setup) {
+    if setup::is_other_length(setup, n) {
         return refuse(Refusal::OtherLength, control);
     }
-    let command = read_command(received, setup.pkw);
-    let process = area::read_process(received, setup.pkw, setup.pzd, control);
-    if broadcast::is_void(command, setup.pkw, setup.pzd, process.w1) {
-        return refuse(Refusal::VoidBroadcast, control);
-    }
-    let length = 0;
-    Served {
-        answer: Answer::Taken,
-        length,
-        control: broadcast::command_control(command, control, process),
+    match control::take_command(setup, n, control, received) {
+        Commanded::Void => refuse(Refusal::VoidBroadcast, control),
+        Commanded::Changed(next) => Served {
+            answer: Answer::Taken,
+            length: 0,
+            control: next,
+        },
     }
 }
 
@@ -368,8 +334,8 @@ fn execute(
     received: &[u8],
     reply: &mut [u8],
 ) -> Served
-    requires { ⌜ openingOf setup (now table) (now values) (length (now reply)) ≡ Passed ⌝ }
-    ensures { λ r. ⌜ Leaves (executeOf setup (now (table .entry)) (now (values .entry)) control status (now (received .entry)) (now (reply .entry))) r (now (values .exit)) (now (reply .exit)) ⌝ }
+    requires { ⌜ openingOf (record { setup = setup; table = now table; memory = record { values = now values }; room = length (now reply) }) ≡ Passed ⌝ }
+    ensures { λ r. ⌜ Leaves (executeOf (record { setup = setup; table = now (table .entry); memory = record { values = now (values .entry) }; control = control; status = status; received = now (received .entry); buffer = now (reply .entry) })) r (record { values = now (values .exit) }) (now (reply .exit)) ⌝ }
 {
     match frame::decode(received) {
         Decoded::Unread(fault) => refuse(Refusal::InTelegram(fault), control),
@@ -407,7 +373,7 @@ pub fn serve(
     received: &[u8],
     reply: &mut [u8],
 ) -> Served
-    ensures { λ r. ⌜ Leaves (callOf setup (now (table .entry)) (now (values .entry)) control status (now (received .entry)) (now (reply .entry))) r (now (values .exit)) (now (reply .exit)) ⌝ }
+    ensures { λ r. ⌜ Leaves (callOf (record { setup = setup; table = now (table .entry); memory = record { values = now (values .entry) }; control = control; status = status; received = now (received .entry); buffer = now (reply .entry) })) r (record { values = now (values .exit) }) (now (reply .exit)) ⌝ }
 {
     match opening::open(setup, table, &values[..], reply.len()) {
         Opening::Closed(fault) => refuse(Refusal::AtOpening(fault), control),

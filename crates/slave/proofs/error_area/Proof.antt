@@ -18,7 +18,9 @@ reply-area-requires : tie.Need-reply-area-requires
 reply-area-requires c κs = search needs
 
 returns : tie.Need-returns
-returns c = c .reply-area .ensures ∙ rw (c .before .number-error .ensures)
+returns c =
+    let after-number-error : tie.After-number-error = search in
+    c .reply-area .ensures ∙ rw (after-number-error .number-error .ensures)
 
 pub error-area-spec : {M : Type 1} → statement M
 error-area-spec =

@@ -1,10 +1,10 @@
 -- `slave::execute` meets its contract, kind by kind. Assumes nothing.
 use mathlib.Core.Path.{refl, sym, _∙_}
 use native.Mathlib.Omega.{arith}
-use lib.ListN.{length}
 use Rattle.frame.proofs.DecodedLaws.{telegram-framed, normal-bounds}
-use Rattle.opening.proofs.AnswersLaws.{passed-opened}
+use Rattle.opening.proofs.AnswersLaws.{Opened, passed-opened}
 use Rattle.slave.proofs.CaseLaws.{executed}
+use Rattle.slave.specs.Slave.{Call, lentBy}
 use borrow.Author.Needs.{needs}
 use Rattle.slave.proofs.execute.Statement.{statement}
 use Rattle.slave.proofs.execute.Tie as tie
@@ -15,6 +15,22 @@ use Rattle.slave.proofs.refuse.Reads as refuse-reads
 use Rattle.slave.proofs.serve_broadcast.Reads as serve-broadcast-reads
 use Rattle.slave.proofs.serve_mirror.Reads as serve-mirror-reads
 use Rattle.slave.proofs.serve_normal.Reads as serve-normal-reads
+
+-- the call that the parameters make
+abbrev call : tie.Start → Call
+call s = record {
+  setup = s .args .setup;
+  table = s .args .table .now;
+  memory = record { values = s .args .values .now };
+  control = s .args .control;
+  status = s .args .status;
+  received = s .args .received .now;
+  buffer = s .args .reply .now;
+}
+
+-- which passed the opening check
+opened : (s : tie.Start) → Opened (lentBy (call s))
+opened s = passed-opened (lentBy (call s)) (s .pre)
 
 decode-requires : tie.Need-decode-requires
 decode-requires c κs = search needs
@@ -30,36 +46,38 @@ enum-known-node c = search needs
 
 serve-mirror-requires : tie.Need-serve-mirror-requires
 serve-mirror-requires c κs =
-    let d = c .before .before .before .before in
-    let a = d .before .before .before .before .before .args in
-    let e = sym (d .decode .ensures) ∙ c .before .before .node .given .1 in
+    let after-node : tie.After-node = search in
+    let d : tie.After-decode = search in
+    let start : tie.Start = search in
+    let a = start .args in
+    let e = sym (d .decode .ensures) ∙ after-node .node .given .1 in
     let f = telegram-framed (a .received .now) _ e refl in
-    let o = passed-opened (a .setup) (a .table .now) (a .values .now) (length (a .reply .now)) (d .before .before .before .before .before .pre) in
-    omega (arith, f .counted .count, f .counted .high, o .buffer)
+    omega (arith, f .counted .count, f .counted .high, opened start .buffer)
 
 enum-told : tie.Need-enum-told
 enum-told c = search needs
 
 sub-serve-broadcast : tie.Need-sub-serve-broadcast
 sub-serve-broadcast c =
-    let d = c .before .before in
-    let a = d .before .before .before .before .before .args in
+    let d : tie.After-decode = search in
+    let start : tie.Start = search in
+    let a = start .args in
     let e = sym (d .decode .ensures) ∙ c .enum-told .given .1 in
     omega (arith, telegram-framed (a .received .now) _ e refl .counted .long)
 
 serve-broadcast-requires : tie.Need-serve-broadcast-requires
-serve-broadcast-requires c κs =
-    let a = c .before .before .before .before .before .before .before in
-    passed-opened (a .args .setup) (a .args .table .now) (a .args .values .now) (length (a .args .reply .now)) (a .pre) .setup-good
+serve-broadcast-requires c κs = search needs
 
 enum-known-node-2 : tie.Need-enum-known-node-2
 enum-known-node-2 c = search needs
 
 sub-n : tie.Need-sub-n
 sub-n c =
-    let d = c .before .before .before in
-    let a = d .before .before .before .before .before .args in
-    let e = sym (d .decode .ensures) ∙ c .before .node2 .given .1 in
+    let after-node2 : tie.After-node2 = search in
+    let d : tie.After-decode = search in
+    let start : tie.Start = search in
+    let a = start .args in
+    let e = sym (d .decode .ensures) ∙ after-node2 .node2 .given .1 in
     let b = normal-bounds (a .received .now) _ _ _ e in
     omega (arith, b .0, b .1, telegram-framed (a .received .now) _ e refl .counted .long)
 
@@ -68,28 +86,34 @@ serve-normal-requires c κs = search needs
 
 returns : tie.Need-returns
 returns c =
-    let d = c .before .before .before .before in
-    let a = d .before .before .before .before .before .args in
-    let e = sym (d .decode .ensures) ∙ c .before .before .fault .given .1 in
-    rw (executed (a .setup) (a .table .now) (a .values .now) (a .control) (a .status) (a .received .now) (a .reply .now) _ e) (record { answers = c .refuse .ensures; values-are = refl; reply-is = refl })
+    let after-fault : tie.After-fault = search in
+    let d : tie.After-decode = search in
+    let start : tie.Start = search in
+    let a = start .args in
+    let e = sym (d .decode .ensures) ∙ after-fault .fault .given .1 in
+    rw (executed (call start) _ e) (record { answers = c .refuse .ensures; memory-is = refl; reply-is = refl })
 
 same-length : tie.Need-same-length
 same-length c = search needs
 
 returns-2 : tie.Need-returns-2
 returns-2 c =
-    let d = c .before .before .before .before .before .before .before in
-    let a = d .before .before .before .before .before .args in
-    let e = sym (d .decode .ensures) ∙ c .before .before .before .before .before .node .given .1 in
-    let m = c .before .before in
-    rw (executed (a .setup) (a .table .now) (a .values .now) (a .control) (a .status) (a .received .now) (a .reply .now) _ e) (record { answers = m .serve-mirror .ensures .0; values-are = refl; reply-is = m .serve-mirror .ensures .1 })
+    let m : tie.After-serve-mirror = search in
+    let after-node : tie.After-node = search in
+    let d : tie.After-decode = search in
+    let start : tie.Start = search in
+    let a = start .args in
+    let e = sym (d .decode .ensures) ∙ after-node .node .given .1 in
+    rw (executed (call start) _ e) (m .serve-mirror .ensures (a .table .now) (record { values = a .values .now }) (a .status))
 
 returns-3 : tie.Need-returns-3
 returns-3 c =
-    let d = c .before .before .before in
-    let a = d .before .before .before .before .before .args in
-    let e = sym (d .decode .ensures) ∙ c .before .enum-told .given .1 in
-    rw (executed (a .setup) (a .table .now) (a .values .now) (a .control) (a .status) (a .received .now) (a .reply .now) _ e) (record { answers = c .serve-broadcast .ensures; values-are = refl; reply-is = refl })
+    let after-enum-told : tie.After-enum-told = search in
+    let d : tie.After-decode = search in
+    let start : tie.Start = search in
+    let a = start .args in
+    let e = sym (d .decode .ensures) ∙ after-enum-told .enum-told .given .1 in
+    rw (executed (call start) _ e) (c .serve-broadcast .ensures (a .table .now) (record { values = a .values .now }) (a .status) (a .reply .now))
 
 same-length-2 : tie.Need-same-length-2
 same-length-2 c = search needs
@@ -99,10 +123,13 @@ same-length-3 c = search needs
 
 returns-4 : tie.Need-returns-4
 returns-4 c =
-    let d = c .before .before .before .before .before .before .before .before .before .before in
-    let a = d .before .before .before .before .before .args in
-    let e = sym (d .decode .ensures) ∙ c .before .before .before .before .before .before .before .before .node2 .given .1 in
-    rw (executed (a .setup) (a .table .now) (a .values .now) (a .control) (a .status) (a .received .now) (a .reply .now) _ e) (c .before .before .before .before .serve-normal .ensures)
+    let after-serve-normal : tie.After-serve-normal = search in
+    let after-node2 : tie.After-node2 = search in
+    let d : tie.After-decode = search in
+    let start : tie.Start = search in
+    let a = start .args in
+    let e = sym (d .decode .ensures) ∙ after-node2 .node2 .given .1 in
+    rw (executed (call start) _ e) (after-serve-normal .serve-normal .ensures)
 
 pub execute-spec : {M : Type 1} → statement M
 execute-spec =

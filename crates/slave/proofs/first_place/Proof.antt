@@ -11,7 +11,7 @@ use Rattle.slave.proofs.sum_places.Reads as sum-places-reads
 
 returns : tie.Need-returns
 returns c =
-    let a = c .before .before in
+    let a : tie.Start = search in
     places-single (now (a .args .t)) (a .args .k) (a .pre .0) (omega arith)
 
 sum-places-requires : tie.Need-sum-places-requires

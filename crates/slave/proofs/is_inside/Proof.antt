@@ -31,7 +31,9 @@ returns-2 : tie.Need-returns-2
 returns-2 c = search needs
 
 returns-3 : tie.Need-returns-3
-returns-3 c = rw (c .before .enum-told3 .given .1) (c .within .ensures)
+returns-3 c =
+    let after-enum-told3 : tie.After-enum-told3 = search in
+    rw (after-enum-told3 .enum-told3 .given .1) (c .within .ensures)
 
 returns-4 : tie.Need-returns-4
 returns-4 c = search needs

@@ -24,11 +24,17 @@ use Rattle.table.proofs.find.Reads as find-reads
 use Rattle.page.proofs.full_number.Reads as full-number-reads
 use Rattle.task.proofs.task_of.Reads as task-of-reads
 
-busy : (c : tie.Else1) → idle (taskOf (c .before .before .before .before .args .area .pke / 4096) .act) ≡ false
+-- the way back from the search to the start
+abbrev start-of : tie.After-find → tie.Start
+start-of c = search
+
+busy : (c : tie.Else1) → (let start : tie.Start = search in idle (taskOf (start .args .area .pke / 4096) .act) ≡ false)
 busy c = task-busy _ (c .if1 .left)
 
-find-gives : (c : tie.After-find) → (let a = c .before .before .before .before .before .before .before .before .args in findIn (a .table .now) (fullNumber (a .area .pke) (a .area .ind)) ≡ c .find .result)
-find-gives c = sym (c .find .ensures ∙ rw (c .before .full-number .ensures))
+find-gives : (c : tie.After-find) → (let start : tie.Start = search in let a = start .args in findIn (a .table .now) (fullNumber (a .area .pke) (a .area .ind)) ≡ c .find .result)
+find-gives c =
+    let after-full-number : tie.After-full-number = search in
+    sym (c .find .ensures ∙ rw (after-full-number .full-number .ensures))
 
 cast-id : tie.Need-cast-id
 cast-id c = search needs
@@ -38,7 +44,9 @@ empty-area-requires c κs = search needs
 
 returns : tie.Need-returns
 unfolding performOf taskOf tasks
-returns c = rw (c .before .if1 .taken) (record { area-is = c .empty-area .ensures; values-are = refl })
+returns c =
+    let then1 : tie.Then1 = search in
+    rw (then1 .if1 .taken) (record { area-is = c .empty-area .ensures; memory-is = refl })
 
 error-area-requires : tie.Need-error-area-requires
 error-area-requires c κs = search needs
@@ -46,10 +54,12 @@ error-area-requires c κs = search needs
 returns-2 : tie.Need-returns-2
 unfolding performOf
 returns-2 c =
-    let i = c .before .before .before in
-    let a = i .before .before .before .before .args in
-    rw (task-unnamed (a .n) (taskOf (a .area .pke / 4096)) (a .table .now) (a .values .now) (a .area) (busy i) (c .before .if2 .taken))
-    (record { area-is = c .error-area .ensures; values-are = refl })
+    let then2 : tie.Then2 = search in
+    let i : tie.Else1 = search in
+    let start : tie.Start = search in
+    let a = start .args in
+    rw (task-unnamed (a .n) (taskOf (a .area .pke / 4096)) (a .table .now) (record { values = a .values .now }) (a .area) (busy i) (then2 .if2 .taken))
+    (record { area-is = c .error-area .ensures; memory-is = refl })
 
 full-number-requires : tie.Need-full-number-requires
 full-number-requires c κs = search needs
@@ -67,13 +77,17 @@ enum-known-k : tie.Need-enum-known-k
 enum-known-k c = search needs
 
 read-record-requires : tie.Need-read-record-requires
-read-record-requires c κs = let f = c .before .before .before in found-whole _ _ _ (find-gives f ∙ c .before .k .given .1)
+read-record-requires c κs =
+    let after-k : tie.After-k = search in
+    let after-find : tie.After-find = search in
+    let f = after-find in found-whole _ _ _ (find-gives f ∙ after-k .k .given .1)
 
 first-place-requires : tie.Need-first-place-requires
 first-place-requires c κs =
-    let f = c .before .before .before .before in
-    let a = f .before .before .before .before .before .before .before .before in
-    let h = found-whole (a .args .table .now) _ _ (find-gives f ∙ c .before .before .k .given .1) in
+    let after-k : tie.After-k = search in
+    let f : tie.After-find = search in
+    let a : tie.Start = search in
+    let h = found-whole (a .args .table .now) _ _ (find-gives f ∙ after-k .k .given .1) in
     (omega arith, omega (arith, a .pre .0), a .pre .1)
 
 task-of-requires : tie.Need-task-of-requires
@@ -81,21 +95,28 @@ task-of-requires c κs = search needs
 
 perform-on-requires : tie.Need-perform-on-requires
 perform-on-requires c κs =
-    let p = c .before .before in
-    let f = p .before .before .before .before .before in
-    let a = f .before .before .before .before .before .before .before .before in
-    let e = find-gives f ∙ p .before .before .before .k .given .1 in (
-      rw (c .before .task-of .ensures) (omega (arith, reply-small (a .args .area .pke / 4096))),
-      rw (p .before .read-record .ensures, p .first-place .ensures) (omega (arith, found-fits (a .args .table .now) _ _ e, a .pre .1)),
+    let after-task-of : tie.After-task-of = search in
+    let p : tie.After-first-place = search in
+    let after-read-record : tie.After-read-record = search in
+    let after-k : tie.After-k = search in
+    let f : tie.After-find = search in
+    let a = start-of f in
+    let e = find-gives f ∙ after-k .k .given .1 in (
+      rw (after-task-of .task-of .ensures) (omega (arith, reply-small (a .args .area .pke / 4096))),
+      rw (after-read-record .read-record .ensures, p .first-place .ensures) (omega (arith, found-fits (a .args .table .now) _ _ e, a .pre .1)),
     )
 
 returns-3 : tie.Need-returns-3
 unfolding performOf
 returns-3 c =
-    let f = c .before .before .before in
-    let a = f .before .before .before .before .before .before .before .before .args in
-    rw (task-found (a .n) (taskOf (a .area .pke / 4096)) (a .table .now) (a .values .now) (a .area) Nothing (busy (f .before .before .before .before)) (f .before .before .if2 .left) (find-gives f ∙ c .before .enum-told .given .1))
-    (record { area-is = c .error-area2 .ensures; values-are = refl })
+    let after-enum-told : tie.After-enum-told = search in
+    let f : tie.After-find = search in
+    let else2 : tie.Else2 = search in
+    let else1 : tie.Else1 = search in
+    let start : tie.Start = search in
+    let a = start .args in
+    rw (task-found (a .n) (taskOf (a .area .pke / 4096)) (a .table .now) (record { values = a .values .now }) (a .area) Nothing (busy (else1)) (else2 .if2 .left) (find-gives f ∙ after-enum-told .enum-told .given .1))
+    (record { area-is = c .error-area2 .ensures; memory-is = refl })
 
 same-length : tie.Need-same-length
 same-length c = search needs
@@ -103,15 +124,20 @@ same-length c = search needs
 returns-4 : tie.Need-returns-4
 unfolding performOf
 returns-4 c =
-    let q = c .before .before in
-    let k = q .before .before in
-    let g = k .before in
-    let f = g .before .before .before .before .before in
-    let a = f .before .before .before .before .before .before .before .before .args in
+    let q : tie.After-perform-on = search in
+    let k : tie.After-task-of = search in
+    let g : tie.After-first-place = search in
+    let after-read-record : tie.After-read-record = search in
+    let after-k : tie.After-k = search in
+    let f : tie.After-find = search in
+    let else2 : tie.Else2 = search in
+    let else1 : tie.Else1 = search in
+    let start : tie.Start = search in
+    let a = start .args in
     rw (
-      task-found (a .n) (taskOf (a .area .pke / 4096)) (a .table .now) (a .values .now) (a .area) _ (busy (f .before .before .before .before)) (f .before .before .if2 .left) (find-gives f ∙ g .before .before .before .k .given .1),
+      task-found (a .n) (taskOf (a .area .pke / 4096)) (a .table .now) (record { values = a .values .now }) (a .area) _ (busy (else1)) (else2 .if2 .left) (find-gives f ∙ after-k .k .given .1),
       ← (k .task-of .ensures),
-      ← (g .before .read-record .ensures),
+      ← (after-read-record .read-record .ensures),
       ← (g .first-place .ensures),
     )
     (q .perform-on .ensures)

@@ -14,8 +14,11 @@ use Rattle.slave.proofs.run_act.Reads as run-act-reads
 use Rattle.task.proofs.judge.Reads as judge-reads
 use Rattle.task.proofs.pick_element.Reads as pick-element-reads
 
-judge-gives : (c : tie.After-judge) → (let a = c .before .before .before .before .before .args in c .judge .result ≡ verdictFor (a .n) (a .task) (a .area) (a .e))
-judge-gives c = c .judge .ensures ∙ rw (c .before .is-inside .ensures, c .before .before .carry .ensures) (verdict-inside _ _ _ _ _ _ _ _ _)
+judge-gives : (c : tie.After-judge) → (let start : tie.Start = search in let a = start .args in c .judge .result ≡ verdictFor (a .n) (a .task) (a .area) (a .e))
+judge-gives c =
+    let after-is-inside : tie.After-is-inside = search in
+    let after-carry : tie.After-carry = search in
+    c .judge .ensures ∙ rw (after-is-inside .is-inside .ensures, after-carry .carry .ensures) (verdict-inside _ _ _ _ _ _ _ _ _)
 
 cast-index : tie.Need-cast-index
 cast-index c = search needs
@@ -49,30 +52,37 @@ add-place c = search needs
 
 run-act-requires : tie.Need-run-act-requires
 run-act-requires c κs =
-    let j = c .before .before .before .before in
-    let a = j .before .before .before .before .before in
+    let after-pick-element : tie.After-pick-element = search in
+    let after-enum-told : tie.After-enum-told = search in
+    let j : tie.After-judge = search in
+    let a : tie.Start = search in
     let t = a .args .task in
-    let g = sym (judge-gives j) ∙ c .before .before .enum-told .given .1 in
-    (a .pre .0, rw (c .before .pick-element .ensures) (granted-place (a .args .n) (a .args .task) (a .args .area) (a .args .e) (a .args .values .now) (a .args .first) g (a .pre .1)))
+    let g = sym (judge-gives j) ∙ after-enum-told .enum-told .given .1 in
+    (a .pre .0, rw (after-pick-element .pick-element .ensures) (granted-place (a .args .n) (a .args .task) (a .args .area) (a .args .e) (record { values = a .args .values .now }) (a .args .first) g (a .pre .1)))
 
 returns : tie.Need-returns
 returns c =
-    let j = c .before .before .before .before in
-    let a = j .before .before .before .before .before .args in
-    let d = task-denied (a .n) (a .task) (a .area) (a .e) (a .values .now) (a .first) _ (sym (judge-gives j) ∙ c .before .before .verdict .given .1) in
-    rw d (record { area-is = c .error-area .ensures; values-are = refl })
+    let after-verdict : tie.After-verdict = search in
+    let j : tie.After-judge = search in
+    let start : tie.Start = search in
+    let a = start .args in
+    let d = task-denied (a .n) (a .task) (a .area) (a .e) (record { values = a .values .now }) (a .first) _ (sym (judge-gives j) ∙ after-verdict .verdict .given .1) in
+    rw d (record { area-is = c .error-area .ensures; memory-is = refl })
 
 same-length : tie.Need-same-length
 same-length c = search needs
 
 returns-2 : tie.Need-returns-2
 returns-2 c =
-    let r = c .before .before in
-    let k = r .before .before in
-    let j = k .before .before .before in
-    let a = j .before .before .before .before .before .args in
-    let g = task-granted (a .n) (a .task) (a .area) (a .e) (a .values .now) (a .first) (sym (judge-gives j) ∙ k .before .enum-told .given .1) in
-    rw (g, ← (k .pick-element .ensures), ← (j .before .before .carry .ensures)) (r .run-act .ensures)
+    let r : tie.After-run-act = search in
+    let k : tie.After-pick-element = search in
+    let after-enum-told : tie.After-enum-told = search in
+    let j : tie.After-judge = search in
+    let after-carry : tie.After-carry = search in
+    let start : tie.Start = search in
+    let a = start .args in
+    let g = task-granted (a .n) (a .task) (a .area) (a .e) (record { values = a .values .now }) (a .first) (sym (judge-gives j) ∙ after-enum-told .enum-told .given .1) in
+    rw (g, ← (k .pick-element .ensures), ← (after-carry .carry .ensures)) (r .run-act .ensures)
 
 pub perform-on-spec : {M : Type 1} → statement M
 perform-on-spec =

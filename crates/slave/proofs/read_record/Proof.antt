@@ -38,8 +38,9 @@ entry-of-requires c κs = search needs
 
 returns : tie.Need-returns
 returns c =
-    let r = c .before in
-    let a = r .before .before .before .args in
+    let r : tie.After-record-of = search in
+    let start : tie.Start = search in
+    let a = start .args in
     c .entry-of .ensures ∙ rw (r .record-of .ensures) (entry-part (now (a .t)) (a .k) (12 * a .k + 12 - 12 * a .k) (omega arith) (omega arith))
 
 pub read-record-spec : {M : Type 1} → statement M

@@ -33,7 +33,7 @@ pick-reply-id-requires c κs = search needs
 
 reply-area-requires : tie.Need-reply-area-requires
 reply-area-requires c κs =
-    let a = c .before .before .before .before .before in
+    let a : tie.Start = search in
     rw (c .pick-reply-id .ensures) (read-reply-le (a .args .reply) (a .args .double) (a .pre .0))
 
 enum-told-3 : tie.Need-enum-told-3
@@ -61,22 +61,35 @@ error-area-requires : tie.Need-error-area-requires
 error-area-requires c κs = search needs
 
 returns : tie.Need-returns
-returns c = rw (c .before .enum-told .given .1) (record { area-is = c .empty-area .ensures; values-are = refl })
+returns c =
+    let after-enum-told : tie.After-enum-told = search in
+    rw (after-enum-told .enum-told .given .1) (record { area-is = c .empty-area .ensures; memory-is = refl })
 
 returns-2 : tie.Need-returns-2
-returns-2 c = rw (c .before .before .before .enum-told2 .given .1) (record { area-is = c .reply-area .ensures ∙ rw (c .before .pick-reply-id .ensures); values-are = refl })
+returns-2 c =
+    let after-pick-reply-id : tie.After-pick-reply-id = search in
+    let after-enum-told2 : tie.After-enum-told2 = search in
+    rw (after-enum-told2 .enum-told2 .given .1) (record { area-is = c .reply-area .ensures ∙ rw (after-pick-reply-id .pick-reply-id .ensures); memory-is = refl })
 
 same-length : tie.Need-same-length
 same-length c = search needs
 
 returns-3 : tie.Need-returns-3
-returns-3 c = rw (c .before .before .before .before .before .enum-told3 .given .1) (record { area-is = c .reply-area2 .ensures; values-are = c .before .before .before .store .ensures })
+returns-3 c =
+    let after-store : tie.After-store = search in
+    let after-enum-told3 : tie.After-enum-told3 = search in
+    rw (after-enum-told3 .enum-told3 .given .1) (record { area-is = c .reply-area2 .ensures; memory-is = rw (after-store .store .ensures) })
 
 returns-4 : tie.Need-returns-4
-returns-4 c = rw (c .before .before .enum-told4 .given .1) (record { area-is = c .reply-area3 .ensures ∙ rw (c .before .count-elements .ensures); values-are = refl })
+returns-4 c =
+    let after-count-elements : tie.After-count-elements = search in
+    let after-enum-told4 : tie.After-enum-told4 = search in
+    rw (after-enum-told4 .enum-told4 .given .1) (record { area-is = c .reply-area3 .ensures ∙ rw (after-count-elements .count-elements .ensures); memory-is = refl })
 
 returns-5 : tie.Need-returns-5
-returns-5 c = rw (c .before .enum-told5 .given .1) (record { area-is = c .error-area .ensures; values-are = refl })
+returns-5 c =
+    let after-enum-told5 : tie.After-enum-told5 = search in
+    rw (after-enum-told5 .enum-told5 .given .1) (record { area-is = c .error-area .ensures; memory-is = refl })
 
 pub run-act-spec : {M : Type 1} → statement M
 run-act-spec =

@@ -1,7 +1,7 @@
 -- `slave::run_task` meets its contract. Assumes nothing.
 use mathlib.Core.Path.{refl}
 use borrow.Author.Tests.{ne-eqb}
-use Rattle.slave.specs.Slave.{taskDone}
+use Rattle.slave.specs.Perform.{taskDone}
 use borrow.Author.Needs.{needs}
 use Rattle.slave.proofs.run_task.Statement.{statement}
 use Rattle.slave.proofs.run_task.Tie as tie
@@ -16,7 +16,9 @@ empty-area-requires c κs = search needs
 
 returns : tie.Need-returns
 unfolding taskDone
-returns c = rw (c .before .if1 .taken) (record { area-is = c .empty-area .ensures; values-are = refl })
+returns c =
+    let then1 : tie.Then1 = search in
+    rw (then1 .if1 .taken) (record { area-is = c .empty-area .ensures; memory-is = refl })
 
 read-area-requires : tie.Need-read-area-requires
 read-area-requires c κs = search needs
@@ -30,9 +32,10 @@ same-length c = search needs
 returns-2 : tie.Need-returns-2
 unfolding taskDone
 returns-2 c =
-    let p = c .before .before in
-    let i = p .before .before .before in
-    rw (ne-eqb _ _ (i .if1 .left), ← (p .before .before .read-area .ensures)) (p .perform .ensures)
+    let p : tie.After-perform = search in
+    let after-read-area : tie.After-read-area = search in
+    let i : tie.Else1 = search in
+    rw (ne-eqb _ _ (i .if1 .left), ← (after-read-area .read-area .ensures)) (p .perform .ensures)
 
 pub run-task-spec : {M : Type 1} → statement M
 run-task-spec =

@@ -1,6 +1,7 @@
 -- `slave::serve` meets its contract: the opening check, then the telegram. Assumes nothing.
 use mathlib.Core.Path.{refl, sym, _∙_}
 use Rattle.slave.proofs.CaseLaws.{called}
+use Rattle.slave.specs.Slave.{Call}
 use borrow.Author.Needs.{needs}
 use Rattle.slave.proofs.serve.Statement.{statement}
 use Rattle.slave.proofs.serve.Tie as tie
@@ -9,6 +10,18 @@ use Rattle.slave.proofs.serve.Lts as lts
 use Rattle.opening.proofs.open.Reads as open-reads
 use Rattle.slave.proofs.execute.Reads as execute-reads
 use Rattle.slave.proofs.refuse.Reads as refuse-reads
+
+-- the call that the parameters make
+abbrev call : tie.Start → Call
+call s = record {
+  setup = s .args .setup;
+  table = s .args .table .now;
+  memory = record { values = s .args .values .now };
+  control = s .args .control;
+  status = s .args .status;
+  received = s .args .received .now;
+  buffer = s .args .reply .now;
+}
 
 open-requires : tie.Need-open-requires
 open-requires c κs = search needs
@@ -24,9 +37,11 @@ enum-told c = search needs
 
 execute-requires : tie.Need-execute-requires
 execute-requires c κs =
-    let o = c .before .before .before .before in
-    let a = o .before .before .before .before .before .before .args in
-    let e = sym (o .«open» .ensures) ∙ c .before .before .enum-told .given .1 in
+    let after-enum-told : tie.After-enum-told = search in
+    let o : tie.After-open = search in
+    let start : tie.Start = search in
+    let a = start .args in
+    let e = sym (o .«open» .ensures) ∙ after-enum-told .enum-told .given .1 in
     e
 
 same-length : tie.Need-same-length
@@ -34,10 +49,12 @@ same-length c = search needs
 
 returns : tie.Need-returns
 returns c =
-    let o = c .before .before .before .before in
-    let a = o .before .before .before .before .before .before .args in
-    let e = sym (o .«open» .ensures) ∙ c .before .before .fault .given .1 in
-    rw (called (a .setup) (a .table .now) (a .values .now) (a .control) (a .status) (a .received .now) (a .reply .now) _ e) (record { answers = c .refuse .ensures; values-are = refl; reply-is = refl })
+    let after-fault : tie.After-fault = search in
+    let o : tie.After-open = search in
+    let start : tie.Start = search in
+    let a = start .args in
+    let e = sym (o .«open» .ensures) ∙ after-fault .fault .given .1 in
+    rw (called (call start) _ e) (record { answers = c .refuse .ensures; memory-is = refl; reply-is = refl })
 
 same-length-2 : tie.Need-same-length-2
 same-length-2 c = search needs
@@ -47,10 +64,13 @@ same-length-3 c = search needs
 
 returns-2 : tie.Need-returns-2
 returns-2 c =
-    let o = c .before .before .before .before .before .before .before .before .before in
-    let a = o .before .before .before .before .before .before .args in
-    let e = sym (o .«open» .ensures) ∙ c .before .before .before .before .before .before .before .enum-told .given .1 in
-    rw (called (a .setup) (a .table .now) (a .values .now) (a .control) (a .status) (a .received .now) (a .reply .now) _ e) (c .before .before .before .before .execute .ensures)
+    let after-execute : tie.After-execute = search in
+    let after-enum-told : tie.After-enum-told = search in
+    let o : tie.After-open = search in
+    let start : tie.Start = search in
+    let a = start .args in
+    let e = sym (o .«open» .ensures) ∙ after-enum-told .enum-told .given .1 in
+    rw (called (call start) _ e) (after-execute .execute .ensures)
 
 pub serve-spec : {M : Type 1} → statement M
 serve-spec =

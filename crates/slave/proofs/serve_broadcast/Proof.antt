@@ -1,90 +1,93 @@
 -- `slave::serve_broadcast` meets its contract. Assumes nothing.
-use mathlib.Core.Path.{_≡_, sym, _∙_}
-use mathlib.Core.Bool.{false}
-use borrow.Author.Tests.{ne-eqb}
-use Rattle.setup.specs.SetupRules.{netBytes}
-use Rattle.setup.proofs.SetupLaws.{ok-configured, area-words}
-use Rattle.broadcast.specs.Broadcast.{isVoid}
-use Rattle.slave.specs.Slave.{firstWord, commandAt, broadcastCase}
-use Rattle.broadcast.proofs.VoidLaws.{not-void-commands}
-use Rattle.slave.proofs.CaseLaws.{first-taken, void-same, broadcast-void, broadcast-taken}
+use mathlib.Core.Path.{refl, ap, sym, _∙_}
+use Prim.Native.Nat.{ℕ}
+use mathlib.Core.List.{List}
+use Rattle.words.specs.declared.Words.{Words}
+use Rattle.opening.specs.Lent.{Memory}
+use Rattle.answers.specs.declared.Answer.the-variants.{Taken}
+use Rattle.control.proofs.ControlLaws.{is-void, is-changed}
+use Rattle.slave.specs.Slave.{Call}
+use Rattle.slave.proofs.CaseLaws.{broadcast-other-length, broadcast-void, broadcast-taken}
 use borrow.Author.Needs.{needs}
 use Rattle.slave.proofs.serve_broadcast.Statement.{statement}
 use Rattle.slave.proofs.serve_broadcast.Tie as tie
 use Rattle.slave.proofs.serve_broadcast.Reads as reads
 use Rattle.slave.proofs.serve_broadcast.Lts as lts
-use Rattle.broadcast.proofs.command_control.Reads as command-control-reads
-use Rattle.broadcast.proofs.is_void.Reads as is-void-reads
-use Rattle.area.proofs.read_process.Reads as read-process-reads
-use Rattle.slave.proofs.read_command.Reads as read-command-reads
+use Rattle.control.proofs.take_command.Reads as take-command-reads
+use Rattle.setup.proofs.is_other_length.Reads as is-other-length-reads
 use Rattle.slave.proofs.refuse.Reads as refuse-reads
-use Rattle.setup.proofs.net_bytes.Reads as net-bytes-reads
 
-net-bytes-requires : tie.Need-net-bytes-requires
-net-bytes-requires c κs = search needs
+-- the call that the parameters make, whatever else is lent
+abbrev call : tie.Start → List ℕ → Memory → Words → List ℕ → Call
+call s t m w out = record {
+  setup = s .args .setup;
+  table = t;
+  memory = m;
+  control = s .args .control;
+  status = w;
+  received = s .args .received .now;
+  buffer = out;
+}
+
+is-other-length-requires : tie.Need-is-other-length-requires
+is-other-length-requires c κs = search needs
 
 refuse-requires : tie.Need-refuse-requires
 refuse-requires c κs = search needs
 
 returns : tie.Need-returns
-unfolding broadcastCase
-returns c = c .refuse .ensures ∙ sym (rw (ne-eqb _ _ (λ e. c .before .if1 .taken (e ∙ sym (c .before .before .net-bytes .ensures)))))
+returns c =
+    let then1 : tie.Then1 = search in
+    let l : tie.After-is-other-length = search in
+    let start : tie.Start = search in
+    let a = start .args in
+    λ t m w out. rw (broadcast-other-length (a .n) (call start t m w out) (sym (l .is-other-length .ensures) ∙ then1 .if1 .taken)) (record { answers = c .refuse .ensures; memory-is = refl; reply-is = refl })
 
--- the telegram has the set-up's words
-long : (c : tie.Else1) → (let a = c .before .before .before .args in a .n ≡ netBytes (a .setup))
-long c = c .if1 .left ∙ c .before .net-bytes .ensures
+take-command-requires : tie.Need-take-command-requires
+take-command-requires c κs = search needs
 
-read-command-requires : tie.Need-read-command-requires
-read-command-requires c κs h =
-    let a = c .before .before .before in
-    area-words (a .args .setup) (ok-configured (a .args .setup) (a .pre)) h
-
-read-process-requires : tie.Need-read-process-requires
-read-process-requires c κs = search needs
-
-is-void-requires : tie.Need-is-void-requires
-is-void-requires c κs = search needs
-
-void : (c : tie.After-is-void) → (let a = c .before .before .before .before .before .before .args in c .is-void .result ≡ isVoid (commandAt (a .received .now) (a .setup .pkw)) (a .setup .pkw) (a .setup .pzd) (firstWord (a .setup) (a .received .now)))
-void c =
-    let p = c .before in
-    let e = p .before .before in
-    let a = e .before .before .before .args in
-    c .is-void .ensures
-    ∙ void-same _ _ (a .setup .pkw) (a .setup .pzd) _ _ (p .before .read-command .ensures) (first-taken (a .setup) (a .control) (a .received .now) (p .read-process .ensures))
+enum-told : tie.Need-enum-told
+enum-told c = search needs
 
 refuse-requires-2 : tie.Need-refuse-requires-2
 refuse-requires-2 c κs = search needs
 
+enum-known-next : tie.Need-enum-known-next
+enum-known-next c = search needs
+
 returns-2 : tie.Need-returns-2
 returns-2 c =
-    let v = c .before .before in
-    c .refuse2 .ensures ∙ sym (broadcast-void _ _ _ _ (long (v .before .before .before)) (sym (void v) ∙ c .before .if2 .taken))
-
-command-control-requires : tie.Need-command-control-requires
-command-control-requires c κs = search needs
+    let told : tie.After-enum-told = search in
+    let command : tie.After-take-command = search in
+    let else1 : tie.Else1 = search in
+    let l : tie.After-is-other-length = search in
+    let start : tie.Start = search in
+    let a = start .args in
+    let void = is-void (a .setup) (a .n) (a .control) (a .received .now) (sym (command .take-command .ensures) ∙ told .enum-told .given .1) in
+    λ t m w out. rw (broadcast-void (a .n) (call start t m w out) (sym (l .is-other-length .ensures) ∙ else1 .if1 .left) void) (record { answers = c .refuse2 .ensures; memory-is = refl; reply-is = refl })
 
 returns-3 : tie.Need-returns-3
 returns-3 c =
-    let v = c .before .before in
-    let p = v .before in
-    let e = p .before .before in
-    let a = e .before .before .before .args in
-    let no : isVoid (commandAt (a .received .now) (a .setup .pkw)) (a .setup .pkw) (a .setup .pzd) (firstWord (a .setup) (a .received .now)) ≡ false = sym (void v) ∙ c .before .if2 .left in
-    sym (broadcast-taken _ (a .setup) (a .control) (a .received .now) (long e) no
-    ∙ sym (rw (c .command-control .ensures, p .before .read-command .ensures (not-void-commands _ _ _ _ no .areas), p .read-process .ensures)))
+    let next : tie.After-next = search in
+    let command : tie.After-take-command = search in
+    let else1 : tie.Else1 = search in
+    let l : tie.After-is-other-length = search in
+    let start : tie.Start = search in
+    let a = start .args in
+    let changed = is-changed (a .setup) (a .n) (a .control) (a .received .now) _ (sym (command .take-command .ensures) ∙ next .next .given .1) in
+    λ t m w out. rw (broadcast-taken (a .n) (call start t m w out) (sym (l .is-other-length .ensures) ∙ else1 .if1 .left) (changed .0))
+    (record { answers = ap (λ (x : Words). record { answer = Taken; length = 0; control = x }) (changed .1); memory-is = refl; reply-is = refl })
 
 pub serve-broadcast-spec : {M : Type 1} → statement M
 serve-broadcast-spec =
     tie.close
     (tie.spec
-    net-bytes-requires
+    is-other-length-requires
     refuse-requires
     returns
-    read-command-requires
-    read-process-requires
-    is-void-requires
+    take-command-requires
+    enum-told
     refuse-requires-2
+    enum-known-next
     returns-2
-    command-control-requires
     returns-3)

@@ -1,46 +1,76 @@
 -- `slave::serve_normal` meets its contract: 16, 17, then task, control words and reply. Assumes nothing.
 use mathlib.Core.Path.{refl, sym, _∙_}
 use native.Mathlib.Omega.{arith}
-use lib.ListN.{length}
-use Rattle.setup.proofs.SetupLaws.{ok-configured}
-use Rattle.opening.proofs.AnswersLaws.{passed-opened}
+use Rattle.setup.proofs.SetupLaws.{ok-configured, node-own, node-other}
+use Rattle.opening.proofs.AnswersLaws.{Opened, passed-opened}
 use Rattle.slave.proofs.CaseLaws.{normal-other-node, normal-other-length, normal-replied, reply-sent}
+use Rattle.slave.specs.Slave.{Call, lentBy}
 use borrow.Author.Needs.{needs}
 use Rattle.slave.proofs.serve_normal.Statement.{statement}
 use Rattle.slave.proofs.serve_normal.Tie as tie
 use Rattle.slave.proofs.serve_normal.Reads as reads
 use Rattle.slave.proofs.serve_normal.Lts as lts
 use Rattle.net.proofs.write_normal.Reads as write-normal-reads
-use Rattle.setup.proofs.net_bytes.Reads as net-bytes-reads
+use Rattle.setup.proofs.is_other_length.Reads as is-other-length-reads
 use Rattle.slave.proofs.refuse.Reads as refuse-reads
 use Rattle.slave.proofs.run_task.Reads as run-task-reads
-use Rattle.slave.proofs.take_control.Reads as take-control-reads
+use Rattle.control.proofs.take_control.Reads as take-control-reads
+use Rattle.setup.proofs.area_count.Reads as area-count-reads
+
+-- the call that the parameters make
+abbrev call : tie.Start → Call
+call s = record {
+  setup = s .args .setup;
+  table = s .args .table .now;
+  memory = record { values = s .args .values .now };
+  control = s .args .control;
+  status = s .args .status;
+  received = s .args .received .now;
+  buffer = s .args .reply .now;
+}
+
+-- which passed the opening check
+opened : (s : tie.Start) → Opened (lentBy (call s))
+opened s = passed-opened (lentBy (call s)) (s .pre)
+
+-- the way back to the start, from the second test
+abbrev start-of : tie.After-is-other-length → tie.Start
+start-of c = search
 
 refuse-requires : tie.Need-refuse-requires
 refuse-requires c κs = search needs
 
 returns : tie.Need-returns
 returns c =
-    let a = c .before .before .before .before .before .before .before .args in
-    rw (normal-other-node (a .node) (a .n) (a .setup) (a .table .now) (a .values .now) (a .control) (a .status) (a .received .now) (a .reply .now) (c .before .if1 .taken))
-    (record { answers = c .refuse .ensures; values-are = refl; reply-is = refl })
+    let then1 : tie.Then1 = search in
+    let start : tie.Start = search in
+    let a = start .args in
+    rw (normal-other-node (a .node) (a .n) (call start) (node-other (a .setup) (a .node) (then1 .if1 .taken)))
+    (record { answers = c .refuse .ensures; memory-is = refl; reply-is = refl })
 
-net-bytes-requires : tie.Need-net-bytes-requires
-net-bytes-requires c κs = search needs
+is-other-length-requires : tie.Need-is-other-length-requires
+is-other-length-requires c κs = search needs
 
 refuse-requires-2 : tie.Need-refuse-requires-2
 refuse-requires-2 c κs = search needs
 
 returns-2 : tie.Need-returns-2
 returns-2 c =
-    let a = c .before .before .before .before .before .before .before .before .before .args in
-    rw (normal-other-length (a .node) (a .n) (a .setup) (a .table .now) (a .values .now) (a .control) (a .status) (a .received .now) (a .reply .now) (c .before .before .before .if1 .left) (λ e. c .before .if2 .taken (e ∙ sym (c .before .before .net-bytes .ensures))))
-    (record { answers = c .refuse2 .ensures; values-are = refl; reply-is = refl })
+    let then2 : tie.Then2 = search in
+    let after-is-other-length : tie.After-is-other-length = search in
+    let else1 : tie.Else1 = search in
+    let start : tie.Start = search in
+    let a = start .args in
+    rw (normal-other-length (a .node) (a .n) (call start) (node-own (a .setup) (a .node) (else1 .if1 .left)) (sym (after-is-other-length .is-other-length .ensures) ∙ then2 .if2 .taken))
+    (record { answers = c .refuse2 .ensures; memory-is = refl; reply-is = refl })
+
+area-count-requires : tie.Need-area-count-requires
+area-count-requires c κs = search needs
 
 run-task-requires : tie.Need-run-task-requires
 run-task-requires c κs =
-    let a = c .before .before .before .before .before .before .before .before .before in
-    let o = passed-opened (a .args .setup) (a .args .table .now) (a .args .values .now) (length (a .args .reply .now)) (a .pre) in
+    let start : tie.Start = search in
+    let o = opened start in
     (o .short, omega (arith, o .count))
 
 take-control-requires : tie.Need-take-control-requires
@@ -57,19 +87,25 @@ same-length-2 c = search needs
 
 returns-3 : tie.Need-returns-3
 returns-3 c =
-    let w = c .before .before in
-    let k = w .before .before in
-    let r = k .before .before .before in
-    let e = r .before .before in
-    let s = e .before .before .before .before .before .before .before .before in
+    let w : tie.After-write-normal = search in
+    let k : tie.After-take-control = search in
+    let r : tie.After-run-task = search in
+    let count : tie.After-area-count = search in
+    let e : tie.Else2 = search in
+    let l : tie.After-is-other-length = search in
+    let else1 : tie.Else1 = search in
+    let s = start-of l in
     let a = s .args in
-    let o = passed-opened (a .setup) (a .table .now) (a .values .now) (length (a .reply .now)) (s .pre) in
-    let m = reply-sent (a .setup) (r .run-task .result) (a .status) (a .reply .now) (ok-configured (a .setup) (o .setup-good)) (o .buffer) in
-    rw (normal-replied (a .node) (a .n) (a .setup) (a .table .now) (a .values .now) (a .control) (a .status) (a .received .now) (a .reply .now) (e .before .before .if1 .left) (e .if2 .left ∙ e .before .net-bytes .ensures), ← (r .run-task .ensures .area-is))
+    let o = opened s in
+    let words = count .area-count .ensures in
+    let done = rw words at (r .run-task .ensures) in
+    let wrote = rw words at (w .write-normal .ensures) in
+    let m = reply-sent (a .setup) (a .n) (r .run-task .result) (a .status) (a .reply .now) (ok-configured (a .setup) (o .setup-good)) (o .buffer) in
+    rw (normal-replied (a .node) (a .n) (call s) (node-own (a .setup) (a .node) (else1 .if1 .left)) (sym (l .is-other-length .ensures) ∙ e .if2 .left), ← (done .area-is))
     (record {
-      answers = rw (w .write-normal .ensures .0 ∙ m .0, k .take-control .ensures);
-      values-are = r .run-task .ensures .values-are;
-      reply-is = w .write-normal .ensures .1 ∙ m .1;
+      answers = rw (wrote .0 ∙ m .0, k .take-control .ensures);
+      memory-is = done .memory-is;
+      reply-is = wrote .1 ∙ m .1;
     })
 
 pub serve-normal-spec : {M : Type 1} → statement M
@@ -78,9 +114,10 @@ serve-normal-spec =
     (tie.spec
     refuse-requires
     returns
-    net-bytes-requires
+    is-other-length-requires
     refuse-requires-2
     returns-2
+    area-count-requires
     run-task-requires
     take-control-requires
     write-normal-requires

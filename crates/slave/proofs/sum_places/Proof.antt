@@ -32,13 +32,16 @@ count-places-requires : tie.Need-count-places-requires Inv-loop μ-loop
 count-places-requires c κs = search needs
 
 counted : (c : tie.After-count-places Inv-loop μ-loop) → let l = c .before .before .before in c .count-places .result ≡ countOf (entryAt (now (l .before .before .args .t)) (l .loop .i))
-counted c = c .count-places .ensures ∙ ap countOf (c .before .read-record .ensures)
+counted c =
+    let after-read-record : tie.After-read-record Inv-loop μ-loop = search in
+    c .count-places .ensures ∙ ap countOf (after-read-record .read-record .ensures)
 
 add-sum : tie.Need-add-sum Inv-loop μ-loop
 add-sum c =
+    let l : tie.At-loop Inv-loop μ-loop = search in
+    let start : tie.Start Inv-loop μ-loop = search in
     let e = counted c in
-    let l = c .before .before .before in
-    omega (arith, count-at-le (now (l .before .before .args .t)) (l .loop .i))
+    omega (arith, count-at-le (now (start .args .t)) (l .loop .i))
 
 add-i : tie.Need-add-i Inv-loop μ-loop
 add-i c = omega arith
@@ -48,16 +51,20 @@ loop-less c = omega arith
 
 loop-again : tie.Need-loop-again Inv-loop μ-loop
 loop-again c =
-    let l = c .before .before .before in
-    let a = l .before .before .args in
+    let in-loop : tie.In-loop Inv-loop μ-loop = search in
+    let l : tie.At-loop Inv-loop μ-loop = search in
+    let start : tie.Start Inv-loop μ-loop = search in
+    let a = start .args in
     let e = counted c in
-    let all = ap countsOf (entries-step (now (a .t)) (a .k) (l .loop .i) (c .before .before .loop-test .taken)) ∙ counts-more _ _ in
+    let all = ap countsOf (entries-step (now (a .t)) (a .k) (l .loop .i) (in-loop .loop-test .taken)) ∙ counts-more _ _ in
     (omega arith, omega (arith, count-at-le (now (a .t)) (l .loop .i)), omega arith)
 
 returns : tie.Need-returns Inv-loop μ-loop
 returns c =
-    let a = c .before .before .before .args in
-    let e = ap countsOf (entries-end (now (a .t)) (a .k) (c .before .loop .i) (c .loop-test .left)) ∙ counts-none in
+    let at-loop : tie.At-loop Inv-loop μ-loop = search in
+    let start : tie.Start Inv-loop μ-loop = search in
+    let a = start .args in
+    let e = ap countsOf (entries-end (now (a .t)) (a .k) (at-loop .loop .i) (c .loop-test .left)) ∙ counts-none in
     omega arith
 
 pub sum-places-spec : {M : Type 1} → statement M

@@ -1,0 +1,2 @@
+-- Laws of the control words.
+pub mod ControlLaws

@@ -1,0 +1,2 @@
+-- The control words after a telegram.
+pub mod Control
