@@ -1,73 +1,35 @@
 -- Laws of a parameter task. Assumes nothing.
 use mathlib.Core.Path.{_≡_, refl}
-use mathlib.Core.Bool.{Bool, true, false, not, _&&_, _||_, cond}
+use mathlib.Core.Bool.{Bool, true, false}
 use mathlib.Core.List.{List}
 use Prim.Native.Nat.{ℕ, _+_, _*_, _/_, _%_, _≤_, _<_}
 use native.Mathlib.Decide.{decLt}
 use native.Mathlib.Omega.{arith}
-use borrow.Author.Tests.{eqb-false, leb-false, lt-ltb, le-ltb, not-false}
-use lib.Dec.{eqb, leb, lit<}
+use borrow.Author.Tests.{lt-ltb, le-ltb}
 use lib.ListN.{length}
 use Rattle.entry.specs.declared.Entry.{Entry}
 use Rattle.entry.specs.Fields.{countOf}
-use Rattle.entry.specs.Limits.{isWithin}
 use Rattle.area.specs.declared.Area.{Area}
 use Rattle.table.specs.declared.Found.{Found}
 use Rattle.table.specs.declared.Found.the-variants.{At}
 use Rattle.table.specs.Records.{findIn, entryAt, entries, firstPlace, countsOf}
 use Rattle.table.proofs.RecordsLaws.{found-below, places-fit, one-each}
-use Rattle.task.specs.declared.Act.{Act}
-use Rattle.task.specs.declared.Act.the-variants.{Nothing as Idle, Read, Change, Count, Refuse}
-use Rattle.task.specs.declared.Width.{Width}
 use Rattle.task.specs.declared.Task.{Task}
 use Rattle.task.specs.declared.ParameterError.{ParameterError}
 use Rattle.task.specs.declared.ParameterError.the-variants.{NoParameter}
 use Rattle.task.specs.declared.Verdict.the-variants.{Granted, Denied}
 use Rattle.rows.proofs.RangeLaws.{between}
-use Rattle.task.specs.Task.{tasks, taskOf}
+use Rattle.task.specs.Task.{tasks, taskOf, readReply, carried}
 use Rattle.page.specs.Page.{baseOf, fullNumber}
-use Rattle.task.specs.Verdict.{changesAct, lacksElement, verdictOf, elementOf}
+use Rattle.task.specs.Verdict.{elementOf}
 use Rattle.task.proofs.TaskLaws.{refused-on}
-use Rattle.task.proofs.VerdictLaws.{granted-clear}
+use Rattle.task.proofs.VerdictLaws.{granted-element}
 use Rattle.opening.specs.Lent.{Memory}
-use Rattle.slave.specs.Perform.{readReply, carried, errorArea, doneOf, verdictFor, performOn, performFound, performTask, foundOf, idle}
+use Rattle.slave.specs.Perform.{errorArea, doneOf, verdictFor, performOn, performFound, performTask, foundOf, idle}
 
 pub read-reply-le : (reply : ℕ) (double : Bool) → reply ≤ 14 → readReply reply double ≤ 15
 read-reply-le reply true h = omega arith
 read-reply-le reply false h = omega arith
-
--- ---- a granted task means an element that is there
-
-element-there : (array : Bool) (elements index : ℕ) → lacksElement array elements index ≡ false → elementOf array elements index < cond (eqb elements 0) 1 elements
-unfolding elementOf
-element-there array elements index h = go array (eqb elements 0) refl h
-  where
-    go : (x y : Bool) → eqb elements 0 ≡ y → (x && (not y && leb elements index)) ≡ false → cond (x && not y) index 0 < cond y 1 elements
-    go true true e f = lit< tt
-    go true false e f = leb-false elements index f
-    go false true e f = lit< tt
-    go false false e f = let n = eqb-false elements 0 e in omega arith
-
-pub granted-element : (act : Act) (width : Width) (array : Bool) (elements : ℕ) (double writable inside : Bool) (index n : ℕ)
-    → verdictOf act width array elements double writable inside index n ≡ Granted → elementOf array elements index < cond (eqb elements 0) 1 elements
-granted-element act width array elements double writable inside index n e =
-    element-there array elements index (granted-clear act width array elements double writable inside index n e .element-there)
-
--- a granted change is within the limits
-pub granted-inside : (width : Width) (array : Bool) (elements : ℕ) (double writable inside : Bool) (index n : ℕ)
-    → verdictOf Change width array elements double writable inside index n ≡ Granted → inside ≡ true
-granted-inside width array elements double writable inside index n e =
-    not-false inside (granted-clear Change width array elements double writable inside index n e .value-inside)
-
--- limits are asked of changes alone
-pub verdict-inside : (act : Act) (width : Width) (array : Bool) (elements : ℕ) (double writable inside : Bool) (index n : ℕ)
-    → verdictOf act width array elements double writable (not (changesAct act) || inside) index n ≡ verdictOf act width array elements double writable inside index n
-unfolding verdictOf
-verdict-inside Idle width array elements double writable inside index n = refl
-verdict-inside Read width array elements double writable inside index n = refl
-verdict-inside Change width array elements double writable inside index n = refl
-verdict-inside Count width array elements double writable inside index n = refl
-verdict-inside Refuse width array elements double writable inside index n = refl
 
 -- ---- what is found is one of the records, and its places are among the values
 
@@ -105,14 +67,12 @@ module _ (n : ℕ) (k : Task) (a : Area) (e : Entry) (m : Memory) (first : ℕ) 
 
   pub task-granted : verdictFor n k a e ≡ Granted
       → performOn n k a e m first
-      ≡ doneOf (k .act) (k .reply) a (e .double) (e .elements) (carried (k .width) (a .value)) m (first + elementOf (k .array) (e .elements) (a .ind % 256))
+      ≡ doneOf (k .act) (k .reply) a (e .double) (e .elements) (carried (k .width) (a .value)) m (first + elementOf k e (a .ind % 256))
   unfolding performOn
   task-granted h = rw h
 
-  pub granted-place : verdictFor n k a e ≡ Granted → first + countOf e ≤ length (m .values) → first + elementOf (k .array) (e .elements) (a .ind % 256) < length (m .values)
-  unfolding countOf
-  granted-place h f =
-      omega (arith, granted-element (k .act) (k .width) (k .array) (e .elements) (e .double) (e .writable) (isWithin e (carried (k .width) (a .value))) (a .ind % 256) n h)
+  pub granted-place : verdictFor n k a e ≡ Granted → first + countOf e ≤ length (m .values) → first + elementOf k e (a .ind % 256) < length (m .values)
+  granted-place h f = omega (arith, granted-element n k e (a .ind % 256) (carried (k .width) (a .value)) h)
 
 module _ (n : ℕ) (k : Task) (t : List ℕ) (m : Memory) (a : Area) where
   pub task-unnamed : idle (k .act) ≡ false → 2000 ≤ baseOf (a .pke) → performTask n k t m a ≡ record { area = errorArea a NoParameter; memory = m }

@@ -15,7 +15,6 @@ use lib.ListN.{getD}
 use Rattle.area.specs.declared.Area.{Area}
 use Rattle.area.specs.Read.{emptyArea, areaAt}
 use Rattle.entry.specs.declared.Entry.{Entry}
-use Rattle.entry.specs.Limits.{isWithin}
 use Rattle.opening.specs.Lent.{Memory, stored}
 use Rattle.table.specs.declared.Found.{Found}
 use Rattle.table.specs.declared.Found.the-variants.{At, Nothing}
@@ -23,13 +22,11 @@ use Rattle.table.specs.Records.{entryAt, findIn, firstPlace}
 use Rattle.task.specs.declared.Task.{Task}
 use Rattle.task.specs.declared.Act.{Act}
 use Rattle.task.specs.declared.Act.the-variants.{Nothing as Idle, Read, Change, Count, Refuse}
-use Rattle.task.specs.declared.Width.{Width}
-use Rattle.task.specs.declared.Width.the-variants.{Either, Word, Double}
 use Rattle.task.specs.declared.ParameterError.{ParameterError}
 use Rattle.task.specs.declared.ParameterError.the-variants.{NoParameter, NoTask}
 use Rattle.task.specs.declared.Verdict.{Verdict}
 use Rattle.task.specs.declared.Verdict.the-variants.{Granted, Denied}
-use Rattle.task.specs.Task.{taskOf}
+use Rattle.task.specs.Task.{taskOf, readReply, carried}
 use Rattle.page.specs.Page.{baseOf, fullNumber, named}
 use Rattle.task.specs.Verdict.{verdictOf, elementOf, errorNumber}
 
@@ -57,16 +54,6 @@ pub record Performs (p : Performed) (a : Area) (m : Memory) : Type 0 where
 abbrev pub nothingDone : Memory → Performed
 nothingDone m = record { area = emptyArea; memory = m }
 
--- a word task carries a word: PWE1 of a four-word area is ignored
-abbrev pub carried : Width → ℕ → ℕ
-carried Either v = v
-carried Word v = v % 65536
-carried Double v = v
-
--- a read of a double replies with the next ID
-abbrev pub readReply : ℕ → Bool → ℕ
-readReply reply double = reply + cond double 1 0
-
 -- task 9's answer: the number of elements, 1 where there is no array
 abbrev pub elementCount : ℕ → ℕ
 elementCount elements = cond (eqb elements 0) 1 elements
@@ -88,14 +75,14 @@ answered (Denied error) a m done = record { area = errorArea a error; memory = m
 -- the verdict on a task in an area a of n words, on a record
 abbrev pub verdictFor : ℕ → Task → Area → Entry → Verdict
 verdictFor n k a e =
-    verdictOf (k .act) (k .width) (k .array) (e .elements) (e .double) (e .writable) (isWithin e (carried (k .width) (a .value))) (a .ind % 256) n
+    verdictOf n k e (a .ind % 256) (carried (k .width) (a .value))
 
 -- a task on a record whose first value place is `first`
 unfoldable pub performOn : ℕ → Task → Area → Entry → Memory → ℕ → Performed
 performOn n k a e m first =
     answered (verdictFor n k a e) a m
     (doneOf (k .act) (k .reply) a (e .double) (e .elements) (carried (k .width) (a .value)) m
-    (first + elementOf (k .array) (e .elements) (a .ind % 256)))
+    (first + elementOf k e (a .ind % 256)))
 
 abbrev pub performFound : ℕ → Task → Area → List ℕ → Memory → Found → Performed
 performFound n k a t m Nothing = record { area = errorArea a NoParameter; memory = m }

@@ -1,18 +1,16 @@
 // The slave (document 01, Slave): one call takes a received page, runs its task on the lent values, and answers.
 ghost use mathlib.Core.Path.{_≡_};
-ghost use mathlib.Core.Bool.{not, _||_};
 ghost use mathlib.Core.List.{List};
 ghost use Prim.Native.Nat.{ℕ, _+_, _*_, _≤_, _<_};
 ghost use lib.ListN.{length, set};
 ghost use Rattle.words.specs.declared.Words.{Words};
 ghost use Rattle.entry.specs.Fields.{countOf};
-ghost use Rattle.entry.specs.Limits.{isWithin};
 ghost use Rattle.table.specs.Records.{entryAt, countsOf, entries, firstPlace};
-ghost use Rattle.task.specs.Verdict.{changesAct};
+ghost use Rattle.task.specs.Task.{readReply, carried};
 ghost use Rattle.opening.specs.Lent.{Memory};
 ghost use Rattle.opening.specs.Answers.{openingOf};
 ghost use Rattle.opening.specs.declared.Opening.the-variants.{Passed};
-ghost use Rattle.slave.specs.Perform.{replyArea, errorArea, elementCount, carried, readReply, doneOf, performOn, performOf, taskDone, Performs};
+ghost use Rattle.slave.specs.Perform.{replyArea, errorArea, elementCount, doneOf, performOn, performOf, taskDone, Performs};
 ghost use Rattle.answers.specs.declared.Answer.the-variants.{Refused};
 ghost use Rattle.slave.specs.Slave.{Leaves, normalCase, mirrorCase, broadcastCase, executeOf, callOf};
 use answers::Answer;
@@ -124,19 +122,6 @@ fn run_act(
     }
 }
 
-// Whether a change keeps to the record's limits; other tasks change nothing.
-fn is_inside(act: Act, e: Entry, value: u32) -> bool
-    ensures { λ r. ⌜ r ≡ (not (changesAct act) || isWithin e value) ⌝ }
-{
-    match act {
-        Act::Nothing => true,
-        Act::Read => true,
-        Act::Change => entry::within(e, value),
-        Act::Count => true,
-        Act::Refuse => true,
-    }
-}
-
 // A task on a record whose first value place is `first`: the first error that applies, or the act.
 fn perform_on(n: u8, task: Task, area: Area, e: Entry, values: &mut [u32], first: usize) -> Area
     requires { ⌜ (task .reply ≤ 14) × (first + countOf e ≤ length (now values)) ⌝ }
@@ -146,22 +131,11 @@ fn perform_on(n: u8, task: Task, area: Area, e: Entry, values: &mut [u32], first
     let width = task.width;
     let index = (area.ind % 256) as u8;
     let value = carry(width, area.value);
-    let inside = is_inside(act, e, value);
-    let verdict = task::judge(
-        act,
-        width,
-        task.array,
-        e.elements,
-        e.double,
-        e.writable,
-        inside,
-        index,
-        n,
-    );
+    let verdict = task::judge(n, task, e, index, value);
     match verdict {
         Verdict::Denied(error) => error_area(area, error),
         Verdict::Granted => {
-            let element = task::pick_element(task.array, e.elements, index);
+            let element = task::pick_element(task, e, index);
             let place = first + element as usize;
             run_act(
                 act,

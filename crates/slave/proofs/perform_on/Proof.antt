@@ -1,14 +1,13 @@
 -- `slave::perform_on` meets its contract: the verdict, then the error or the act. Assumes nothing.
 use mathlib.Core.Path.{_≡_, refl, sym, _∙_}
 use Rattle.slave.specs.Perform.{verdictFor}
-use Rattle.slave.proofs.PerformLaws.{verdict-inside, task-denied, task-granted, granted-place}
+use Rattle.slave.proofs.PerformLaws.{task-denied, task-granted, granted-place}
 use borrow.Author.Needs.{needs}
 use Rattle.slave.proofs.perform_on.Statement.{statement}
 use Rattle.slave.proofs.perform_on.Tie as tie
 use Rattle.slave.proofs.perform_on.Reads as reads
 use Rattle.slave.proofs.perform_on.Lts as lts
 use Rattle.slave.proofs.carry.Reads as carry-reads
-use Rattle.slave.proofs.is_inside.Reads as is-inside-reads
 use Rattle.slave.proofs.error_area.Reads as error-area-reads
 use Rattle.slave.proofs.run_act.Reads as run-act-reads
 use Rattle.task.proofs.judge.Reads as judge-reads
@@ -16,18 +15,14 @@ use Rattle.task.proofs.pick_element.Reads as pick-element-reads
 
 judge-gives : (c : tie.After-judge) → (let start : tie.Start = search in let a = start .args in c .judge .result ≡ verdictFor (a .n) (a .task) (a .area) (a .e))
 judge-gives c =
-    let after-is-inside : tie.After-is-inside = search in
     let after-carry : tie.After-carry = search in
-    c .judge .ensures ∙ rw (after-is-inside .is-inside .ensures, after-carry .carry .ensures) (verdict-inside _ _ _ _ _ _ _ _ _)
+    rw (← (after-carry .carry .ensures)) (c .judge .ensures)
 
 cast-index : tie.Need-cast-index
 cast-index c = search needs
 
 carry-requires : tie.Need-carry-requires
 carry-requires c κs = search needs
-
-is-inside-requires : tie.Need-is-inside-requires
-is-inside-requires c κs = search needs
 
 judge-requires : tie.Need-judge-requires
 judge-requires c κs = search needs
@@ -90,7 +85,6 @@ perform-on-spec =
     (tie.spec
     cast-index
     carry-requires
-    is-inside-requires
     judge-requires
     enum-known-verdict
     error-area-requires
