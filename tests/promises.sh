@@ -1,8 +1,9 @@
 #!/usr/bin/env bash
 # Compares the pages with the sources. docs/PROMISES.md: no public function has a `requires`; every one has a row, with at least two
-# must-fail edits of its own crate and its own instances of claims_results, one for the result and one for each slice lent for
-# writing; every row names a function, and every edit of the repository is named on the page. docs/PROMISES.md, docs/DECISIONS.md
-# and docs/DAMAGE.md: each name that is given with its crate and file stands there. Exits 1 where one of these does not hold.
+# must-fail edits of its own crate (an `extern "C"` function, which hands on to another, at least one) and its own instances of
+# claims_results, one for the result and one for each slice lent for writing; every row names a function, and every edit of the
+# repository is named on the page. docs/PROMISES.md, docs/DECISIONS.md and docs/DAMAGE.md: each name that is given with its crate and
+# file stands there. Exits 1 where one of these does not hold.
 set -euo pipefail
 cd "$(dirname "$0")/.."
 page=docs/PROMISES.md
@@ -13,26 +14,32 @@ wrong() {
     failed=1
 }
 
-# a line for each public function: its name, then the last words of its instances' names: `one` for the result, and one for each
-# slice that is lent for writing, `buffer` for bytes and `values` for 32-bit numbers
+# a line for each public function: its name, how many edits it has at least, and its lent slices: for each that is lent for writing
+# its parameter and the parameter's place among all, as in `values:2`
 functions="$(for source in crates/*/src/*.rt; do
     crate="${source#crates/}"
     awk -v crate="${crate%%/*}" '
-        /^pub (extern "C" )?fn / {
-            name = $0
+        function tell(    name, list, n, i, parts, lent) {
+            name = head
             sub(/^pub (extern "C" )?fn /, "", name)
             sub(/[^a-z_0-9].*/, "", name)
-            lent = " one"
-        }
-        name != "" && /^{/ { print crate "::" name lent; name = "" }
-        name != "" {
-            rest = $0
-            while (match(rest, /&mut [^,)]*/)) {
-                type = substr(rest, RSTART, RLENGTH)
-                rest = substr(rest, RSTART + RLENGTH)
-                lent = lent (type == "&mut [u8]" ? " buffer" : type == "&mut [u32]" ? " values" : " unknown")
+            list = head
+            sub(/^[^(]*\(/, "", list)
+            sub(/\)[^)]*$/, "", list)
+            n = split(list, parts, ",")
+            for (i = 1; i <= n; i++) {
+                if (parts[i] ~ /: *&mut /) {
+                    sub(/:.*/, "", parts[i])
+                    gsub(/ /, "", parts[i])
+                    lent = lent " " parts[i] ":" (i - 1)
+                }
             }
-        }' "$source"
+            print crate "::" name, least lent
+        }
+        /^pub (extern "C" )?fn / { head = ""; reading = 1; least = /^pub extern/ ? 1 : 2 }
+        reading && (/^{/ || /^ *(ghost|requires|ensures) /) { reading = 0; tell() }
+        reading { head = head $0 }
+        reading && /{$/ { reading = 0; tell() }' "$source"
 done)"
 
 # a `requires` between a public function's name and its body
@@ -52,18 +59,24 @@ prefix_of() {
     echo "${prefix//_/-}"
 }
 
-# instance NAME PREFIX LAW: the law is in the file of results, about the contract of that function
+# instance NAME PREFIX LAW STATEMENT: the law is in the file of results, with that statement about the contract of that function
 instance() {
-    grep -qE "^pub $3 : One(Result|Exit) $2\.Post( |\$)" "$results" \
-        && grep -qE "^use Rattle·${1%%::*}\.proofs\.«?${1##*::}»?\.Reads as $2\$" "$results"
+    grep -qxF "pub $3 : $4" "$results" && grep -qE "^use Rattle·${1%%::*}\.proofs\.«?${1##*::}»?\.Reads as $2\$" "$results"
+}
+
+# left PLACE: what is in the slice of that place among the parameters when the call ends
+left() {
+    local path=''
+    for _ in $(seq "$1"); do path="$path .1"; done
+    echo "(λ κs s. now (s$path .0))"
 }
 
 rows=0
 while IFS='|' read -r _ function _ _ edits laws _; do
     name="$(tr -d '` ' <<<"$function")"
     rows=$((rows + 1))
-    lent="$(sed -nE "s/^$name //p" <<<"$functions")"
-    if [ -z "$lent" ]; then
+    read -r least lent < <(sed -nE "s/^$name //p" <<<"$functions") || true
+    if [ -z "$least" ]; then
         wrong "a row names $name, which is no public function"
         continue
     fi
@@ -72,15 +85,17 @@ while IFS='|' read -r _ function _ _ edits laws _; do
         count=$((count + 1))
         [ -f "crates/${name%%::*}/must-fail/$edit.edit" ] || wrong "$name: no edit $edit in its crate"
     done
-    [ "$count" -ge 2 ] || wrong "$name: fewer than two must-fail edits"
+    [ "$count" -ge "$least" ] || wrong "$name: fewer must-fail edits than $least"
     prefix="$(prefix_of "$name")"
-    own="$(printf "$prefix-%s\n" $lent | sort)"
-    given="$(tr -d '`,' <<<"$laws" | xargs -n 1 | sort)"
-    [ "$given" = "$own" ] || wrong "$name: its instances are $(xargs <<<"$own"), its row names $(xargs <<<"$given")"
-    [ "$(uniq -d <<<"$own")" = "" ] || wrong "$name: two slices lent for writing have one instance"
-    for law in $own; do
-        instance "$name" "$prefix" "$law" || wrong "$name: no instance $law of its contract"
+    own="$prefix-one"
+    instance "$name" "$prefix" "$own" "OneResult $prefix.Post" || wrong "$name: no instance $own of its contract"
+    for slice in $lent; do
+        law="$prefix-$(tr '_' '-' <<<"${slice%%:*}")"
+        own="$own $law"
+        instance "$name" "$prefix" "$law" "OneExit $prefix.Post $(left "${slice##*:}")" || wrong "$name: no instance $law of its contract"
     done
+    given="$(tr -d '`,' <<<"$laws" | xargs)"
+    [ "$(xargs -n 1 <<<"$given" | sort)" = "$(xargs -n 1 <<<"$own" | sort)" ] || wrong "$name: its instances are $own, its row names $given"
 done < <(grep -E '^\| `[a-z_]+::[a-z_0-9]+` \|' "$page")
 
 for name in $(cut -d' ' -f1 <<<"$functions"); do

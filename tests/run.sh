@@ -1,5 +1,5 @@
 #!/usr/bin/env bash
-# Builds the library for C and runs everything that stands outside the proofs: the archive's symbols, the C test, the header
+# Builds the library for C and runs everything that stands outside the proofs: what the archive offers and takes, the C test, the header
 # under C++, the examples and the demo against their stored output, and the comparison with a second implementation on some
 # millions of calls. Prints a line for each; exits 1 where one fails. Nothing is fetched.
 #     tests/run.sh [SEED [ROUNDS]]      of the comparison
@@ -28,16 +28,24 @@ same() {
     "$1" > "$out/printed" && diff "$2" "$out/printed"
 }
 
-# the archive needs nothing from outside and offers the seven calls
+# the archive offers the calls that the header declares, and no other
 symbols() {
-    local undefined offered
-    undefined="$(nm "$archive" | grep -w 'U' || true)"
-    offered="$(nm "$archive" | awk '$2 == "T" { print $3 }' | sort | tr '\n' ' ')"
-    if [ -n "$undefined" ]; then
-        echo "undefined: $undefined"
-        return 1
-    fi
-    [ "$offered" = "uss_bcc uss_build_broadcast uss_build_mirror uss_build_task uss_list uss_read_reply uss_slave " ]
+    local declared offered
+    declared="$(gcc -fpreprocessed -E -P include/uss.h | grep -oE 'uss_[a-z_0-9]+\(' | tr -d '(' | sort)"
+    offered="$(nm -g --defined-only "$archive" | awk 'NF == 3 { print $3 }' | sort)"
+    diff <(echo "$declared") <(echo "$offered")
+}
+
+# it takes nothing from outside, keeps nothing (no section that may be written, nothing for each thread) and enters no kernel
+closed() {
+    local undefined kept entered
+    undefined="$(nm -u "$archive" | awk 'NF == 2 { print $2 }')"
+    kept="$(readelf -SW "$archive" | sed -nE 's/^ *\[ *[0-9]+\] +//p' | awk '$7 ~ /[WT]/ && $5 !~ /^0+$/ { print $1 }')"
+    entered="$(objdump -d --no-show-raw-insn "$archive" | awk '$2 ~ /^(syscall|sysenter|int)$/')"
+    [ -z "$undefined" ] || echo "undefined: $undefined"
+    [ -z "$kept" ] || echo "sections that keep something: $kept"
+    [ -z "$entered" ] || echo "calls of the system: $entered"
+    [ -z "$undefined$kept$entered" ]
 }
 
 c_test() {
@@ -69,7 +77,8 @@ comparison() {
 
 rt staticlib uss_c > "$out/staticlib.txt" 2>&1 || { cat "$out/staticlib.txt"; echo "FAILED: rt staticlib uss_c"; exit 1; }
 echo "built: $archive"
-try 'symbols of the archive' symbols
+try 'the archive offers what the header declares' symbols
+try 'the archive has no state and no system call, and needs nothing from outside' closed
 try 'C test' c_test
 try 'header under C++' header_in_cpp
 try 'example slave_host.c' example slave_host

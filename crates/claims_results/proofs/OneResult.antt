@@ -7,7 +7,7 @@ use denote.Ref.{now}
 use Rattle.words.proofs.join.Reads as words-join
 use Rattle.words.proofs.join_double.Reads as words-join-double
 use Rattle.store.proofs.has_room.Reads as store-has-room
-use Rattle.bcc.proofs.bcc.Reads as frame-bcc
+use Rattle.bcc.proofs.bcc.Reads as bcc-bcc
 use Rattle.frame.proofs.check.Reads as frame-check
 use Rattle.frame.proofs.read_address.Reads as frame-read-address
 use Rattle.frame.proofs.decode.Reads as frame-decode
@@ -23,13 +23,13 @@ use Rattle.entry.proofs.entry_ok.Reads as entry-entry-ok
 use Rattle.table.proofs.record_of.Reads as table-record-of
 use Rattle.table.proofs.find.Reads as table-find
 use Rattle.opening.proofs.«open».Reads as opening-open
-use Rattle.area.proofs.empty_area.Reads as net-empty-area
-use Rattle.area.proofs.read_area.Reads as net-read-area
-use Rattle.area.proofs.read_process.Reads as net-read-process
+use Rattle.area.proofs.empty_area.Reads as area-empty-area
+use Rattle.area.proofs.read_area.Reads as area-read-area
+use Rattle.area.proofs.read_process.Reads as area-read-process
 use Rattle.task.proofs.task_of.Reads as task-task-of
-use Rattle.page.proofs.page_of.Reads as task-page-of
-use Rattle.page.proofs.nibble_of.Reads as task-nibble-of
-use Rattle.page.proofs.full_number.Reads as task-full-number
+use Rattle.page.proofs.page_of.Reads as page-page-of
+use Rattle.page.proofs.nibble_of.Reads as page-nibble-of
+use Rattle.page.proofs.full_number.Reads as page-full-number
 use Rattle.task.proofs.number_error.Reads as task-number-error
 use Rattle.task.proofs.judge.Reads as task-judge
 use Rattle.task.proofs.pick_element.Reads as task-pick-element
@@ -75,8 +75,8 @@ words-join-double-one κs a r r′ s s′ = equal-through
 pub store-has-room-one : OneResult store-has-room.Post
 store-has-room-one κs a r r′ s s′ = equal-through
 
-pub frame-bcc-one : OneResult frame-bcc.Post
-frame-bcc-one κs a r r′ s s′ = equal-through
+pub bcc-bcc-one : OneResult bcc-bcc.Post
+bcc-bcc-one κs a r r′ s s′ = equal-through
 
 pub frame-check-one : OneResult frame-check.Post
 frame-check-one κs a r r′ s s′ = equal-through
@@ -123,26 +123,26 @@ table-find-one κs a r r′ s s′ = equal-through
 pub opening-open-one : OneResult opening-open.Post
 opening-open-one κs a r r′ s s′ = equal-through
 
-pub net-empty-area-one : OneResult net-empty-area.Post
-net-empty-area-one κs a r r′ s s′ = equal-through
+pub area-empty-area-one : OneResult area-empty-area.Post
+area-empty-area-one κs a r r′ s s′ = equal-through
 
-pub net-read-area-one : OneResult net-read-area.Post
-net-read-area-one κs a r r′ s s′ = equal-through
+pub area-read-area-one : OneResult area-read-area.Post
+area-read-area-one κs a r r′ s s′ = equal-through
 
-pub net-read-process-one : OneResult net-read-process.Post
-net-read-process-one κs a r r′ s s′ = equal-through
+pub area-read-process-one : OneResult area-read-process.Post
+area-read-process-one κs a r r′ s s′ = equal-through
 
 pub task-task-of-one : OneResult task-task-of.Post
 task-task-of-one κs a r r′ s s′ = equal-through
 
-pub task-page-of-one : OneResult task-page-of.Post
-task-page-of-one κs a r r′ s s′ = equal-through
+pub page-page-of-one : OneResult page-page-of.Post
+page-page-of-one κs a r r′ s s′ = equal-through
 
-pub task-nibble-of-one : OneResult task-nibble-of.Post
-task-nibble-of-one κs a r r′ s s′ = equal-through
+pub page-nibble-of-one : OneResult page-nibble-of.Post
+page-nibble-of-one κs a r r′ s s′ = equal-through
 
-pub task-full-number-one : OneResult task-full-number.Post
-task-full-number-one κs a r r′ s s′ = equal-through
+pub page-full-number-one : OneResult page-full-number.Post
+page-full-number-one κs a r r′ s s′ = equal-through
 
 pub task-number-error-one : OneResult task-number-error.Post
 task-number-error-one κs a r r′ s s′ = equal-through
@@ -178,32 +178,32 @@ text-count-digits-one κs a r r′ s s′ = equal-through
 pub store-put-one : OneResult store-put.Post
 store-put-one κs a r r′ s s′ p p′ = equal-through (p .0) (p′ .0)
 
-pub store-put-buffer : OneExit store-put.Post (λ κs s. now (s .0))
-store-put-buffer κs a r r′ s s′ p p′ = equal-through (p .1) (p′ .1)
+pub store-put-out : OneExit store-put.Post (λ κs s. now (s .0))
+store-put-out κs a r r′ s s′ p p′ = equal-through (p .1) (p′ .1)
 
 pub net-seal-one : OneResult net-seal.Post
 net-seal-one κs a r r′ s s′ p p′ = equal-through (p .0) (p′ .0)
 
-pub net-seal-buffer : OneExit net-seal.Post (λ κs s. now (s .0))
-net-seal-buffer κs a r r′ s s′ p p′ = equal-through (p .1) (p′ .1)
+pub net-seal-out : OneExit net-seal.Post (λ κs s. now (s .0))
+net-seal-out κs a r r′ s s′ p p′ = equal-through (p .1) (p′ .1)
 
 pub net-write-normal-one : OneResult net-write-normal.Post
 net-write-normal-one κs a r r′ s s′ p p′ = equal-through (p .0) (p′ .0)
 
-pub net-write-normal-buffer : OneExit net-write-normal.Post (λ κs s. now (s .0))
-net-write-normal-buffer κs a r r′ s s′ p p′ = equal-through (p .1) (p′ .1)
+pub net-write-normal-out : OneExit net-write-normal.Post (λ κs s. now (s .0))
+net-write-normal-out κs a r r′ s s′ p p′ = equal-through (p .1) (p′ .1)
 
 pub text-put-number-one : OneResult text-put-number.Post
 text-put-number-one κs a r r′ s s′ p p′ = equal-through (p .0) (p′ .0)
 
-pub text-put-number-buffer : OneExit text-put-number.Post (λ κs s. now (s .0))
-text-put-number-buffer κs a r r′ s s′ p p′ = equal-through (p .1) (p′ .1)
+pub text-put-number-out : OneExit text-put-number.Post (λ κs s. now (s .0))
+text-put-number-out κs a r r′ s s′ p p′ = equal-through (p .1) (p′ .1)
 
 pub listing-list-one : OneResult listing-list.Post
 listing-list-one κs a r r′ s s′ p p′ = equal-through (p .0) (p′ .0)
 
-pub listing-list-buffer : OneExit listing-list.Post (λ κs s. now (s .1 .0))
-listing-list-buffer κs a r r′ s s′ p p′ = equal-through (p .1) (p′ .1)
+pub listing-list-out : OneExit listing-list.Post (λ κs s. now (s .1 .0))
+listing-list-out κs a r r′ s s′ p p′ = equal-through (p .1) (p′ .1)
 
 -- answer, length, control words; values; reply buffer
 pub slave-serve-one : OneResult slave-serve.Post
@@ -212,33 +212,33 @@ slave-serve-one κs a r r′ s s′ p p′ = equal-through (p .answers) (p′ .a
 pub slave-serve-values : OneExit slave-serve.Post (λ κs s. now (s .1 .1 .0))
 slave-serve-values κs a r r′ s s′ p p′ = equal-through (p .values-are) (p′ .values-are)
 
-pub slave-serve-buffer : OneExit slave-serve.Post (λ κs s. now (s .1 .1 .1 .1 .1 .1 .0))
-slave-serve-buffer κs a r r′ s s′ p p′ = equal-through (p .reply-is) (p′ .reply-is)
+pub slave-serve-reply : OneExit slave-serve.Post (λ κs s. now (s .1 .1 .1 .1 .1 .1 .0))
+slave-serve-reply κs a r r′ s s′ p p′ = equal-through (p .reply-is) (p′ .reply-is)
 
 -- answer and length; buffer
 pub master-build-task-one : OneResult master-build-task.Post
 master-build-task-one κs a r r′ s s′ p p′ = equal-through (p .answers) (p′ .answers)
 
-pub master-build-task-buffer : OneExit master-build-task.Post (λ κs s. now (s .1 .1 .1 .1 .1 .1 .0))
-master-build-task-buffer κs a r r′ s s′ p p′ = equal-through (p .bytes-are) (p′ .bytes-are)
+pub master-build-task-out : OneExit master-build-task.Post (λ κs s. now (s .1 .1 .1 .1 .1 .1 .0))
+master-build-task-out κs a r r′ s s′ p p′ = equal-through (p .bytes-are) (p′ .bytes-are)
 
 pub master-build-mirror-one : OneResult master-build-mirror.Post
 master-build-mirror-one κs a r r′ s s′ p p′ = equal-through (p .answers) (p′ .answers)
 
-pub master-build-mirror-buffer : OneExit master-build-mirror.Post (λ κs s. now (s .1 .1 .0))
-master-build-mirror-buffer κs a r r′ s s′ p p′ = equal-through (p .bytes-are) (p′ .bytes-are)
+pub master-build-mirror-out : OneExit master-build-mirror.Post (λ κs s. now (s .1 .1 .0))
+master-build-mirror-out κs a r r′ s s′ p p′ = equal-through (p .bytes-are) (p′ .bytes-are)
 
 pub master-build-broadcast-one : OneResult master-build-broadcast.Post
 master-build-broadcast-one κs a r r′ s s′ p p′ = equal-through (p .answers) (p′ .answers)
 
-pub master-build-broadcast-buffer : OneExit master-build-broadcast.Post (λ κs s. now (s .1 .1 .1 .1 .1 .0))
-master-build-broadcast-buffer κs a r r′ s s′ p p′ = equal-through (p .bytes-are) (p′ .bytes-are)
+pub master-build-broadcast-out : OneExit master-build-broadcast.Post (λ κs s. now (s .1 .1 .1 .1 .1 .0))
+master-build-broadcast-out κs a r r′ s s′ p p′ = equal-through (p .bytes-are) (p′ .bytes-are)
 
 pub master-build-one : OneResult master-build.Post
 master-build-one κs a r r′ s s′ p p′ = equal-through (p .answers) (p′ .answers)
 
-pub master-build-buffer : OneExit master-build.Post (λ κs s. now (s .1 .1 .1 .0))
-master-build-buffer κs a r r′ s s′ p p′ = equal-through (p .bytes-are) (p′ .bytes-are)
+pub master-build-out : OneExit master-build.Post (λ κs s. now (s .1 .1 .1 .0))
+master-build-out κs a r r′ s s′ p p′ = equal-through (p .bytes-are) (p′ .bytes-are)
 
 -- the calls for C
 pub uss-slave-one : OneResult uss-slave.Post
@@ -251,8 +251,8 @@ uss-slave-one κs a r r′ s s′ p p′ = λ i. record {
 pub uss-slave-values : OneExit uss-slave.Post (λ κs s. now (s .1 .1 .0))
 uss-slave-values κs a r r′ s s′ p p′ = equal-through (p .values-are) (p′ .values-are)
 
-pub uss-slave-buffer : OneExit uss-slave.Post (λ κs s. now (s .1 .1 .1 .1 .1 .1 .0))
-uss-slave-buffer κs a r r′ s s′ p p′ = equal-through (p .reply-is) (p′ .reply-is)
+pub uss-slave-reply : OneExit uss-slave.Post (λ κs s. now (s .1 .1 .1 .1 .1 .1 .0))
+uss-slave-reply κs a r r′ s s′ p p′ = equal-through (p .reply-is) (p′ .reply-is)
 
 built-one : {o : BuildOutcome} {r r′ : UssBuilt} {out out′ : List ℕ} → BuildLeaves o r out → BuildLeaves o r′ out′ → r ≡ r′
 built-one p p′ = λ i. record { number = equal-through (p .number-is) (p′ .number-is) i; length = equal-through (p .length-is) (p′ .length-is) i }
@@ -260,20 +260,20 @@ built-one p p′ = λ i. record { number = equal-through (p .number-is) (p′ .n
 pub uss-build-task-one : OneResult uss-build-task.Post
 uss-build-task-one κs a r r′ s s′ p p′ = built-one p p′
 
-pub uss-build-task-buffer : OneExit uss-build-task.Post (λ κs s. now (s .1 .1 .1 .1 .1 .1 .0))
-uss-build-task-buffer κs a r r′ s s′ p p′ = equal-through (p .bytes-are) (p′ .bytes-are)
+pub uss-build-task-out : OneExit uss-build-task.Post (λ κs s. now (s .1 .1 .1 .1 .1 .1 .0))
+uss-build-task-out κs a r r′ s s′ p p′ = equal-through (p .bytes-are) (p′ .bytes-are)
 
 pub uss-build-mirror-one : OneResult uss-build-mirror.Post
 uss-build-mirror-one κs a r r′ s s′ p p′ = built-one p p′
 
-pub uss-build-mirror-buffer : OneExit uss-build-mirror.Post (λ κs s. now (s .1 .1 .0))
-uss-build-mirror-buffer κs a r r′ s s′ p p′ = equal-through (p .bytes-are) (p′ .bytes-are)
+pub uss-build-mirror-out : OneExit uss-build-mirror.Post (λ κs s. now (s .1 .1 .0))
+uss-build-mirror-out κs a r r′ s s′ p p′ = equal-through (p .bytes-are) (p′ .bytes-are)
 
 pub uss-build-broadcast-one : OneResult uss-build-broadcast.Post
 uss-build-broadcast-one κs a r r′ s s′ p p′ = built-one p p′
 
-pub uss-build-broadcast-buffer : OneExit uss-build-broadcast.Post (λ κs s. now (s .1 .1 .1 .1 .1 .0))
-uss-build-broadcast-buffer κs a r r′ s s′ p p′ = equal-through (p .bytes-are) (p′ .bytes-are)
+pub uss-build-broadcast-out : OneExit uss-build-broadcast.Post (λ κs s. now (s .1 .1 .1 .1 .1 .0))
+uss-build-broadcast-out κs a r r′ s s′ p p′ = equal-through (p .bytes-are) (p′ .bytes-are)
 
 pub uss-read-reply-one : OneResult uss-read-reply.Post
 uss-read-reply-one κs a r r′ s s′ p p′ = λ i. record {
@@ -286,8 +286,8 @@ uss-read-reply-one κs a r r′ s s′ p p′ = λ i. record {
 pub uss-list-one : OneResult uss-list.Post
 uss-list-one κs a r r′ s s′ p p′ = equal-through (p .0) (p′ .0)
 
-pub uss-list-buffer : OneExit uss-list.Post (λ κs s. now (s .1 .0))
-uss-list-buffer κs a r r′ s s′ p p′ = equal-through (p .1) (p′ .1)
+pub uss-list-out : OneExit uss-list.Post (λ κs s. now (s .1 .0))
+uss-list-out κs a r r′ s s′ p p′ = equal-through (p .1) (p′ .1)
 
 pub uss-bcc-one : OneResult uss-bcc.Post
 uss-bcc-one κs a r r′ s s′ = equal-through
