@@ -13,13 +13,13 @@ use Rattle.entry.specs.declared.Entry.{Entry}
 use Rattle.entry.specs.Fields.{countOf}
 use Rattle.entry.specs.Limits.{isWithin}
 use Rattle.task.specs.declared.Act.{Act}
-use Rattle.task.specs.declared.Act.the-variants.{Read, Change, Count}
+use Rattle.task.specs.declared.Act.the-variants.{Read, Change}
 use Rattle.task.specs.declared.Width.the-variants.{Either}
 use Rattle.task.specs.declared.Task.{Task}
 use Rattle.task.specs.declared.Verdict.{Verdict}
 use Rattle.task.specs.declared.Verdict.the-variants.{Granted, Denied}
 use Rattle.task.specs.Task.{taskRow}
-use Rattle.task.specs.Verdict.{refusesAct, changesAct, countsAct, lacksArray, lacksElement, lacksRoom, verdictRows, verdictOf, elementOf}
+use Rattle.task.specs.Verdict.{refusesAct, changesAct, movesValue, lacksArray, lacksElement, lacksRoom, verdictRows, verdictOf, elementOf}
 
 isGranted : Verdict → Bool
 isGranted Granted = true
@@ -73,11 +73,10 @@ module _ (n : ℕ) (k : Task) (e : Entry) (index v : ℕ) where
   -- ---- the rows that are left where 4 and 3 do not apply, act by act
 
   module _ (array-there : lacksArray k e index ≡ false) (element-there : lacksElement k e index ≡ false) where
-    -- 102 alone
-    pub verdict-room : (act : Act) → k .act ≡ act → (refusesAct act ≡ false) × (changesAct act ≡ false) × (countsAct act ≡ false)
-        → verdictOf n k e index v ≡ verdictOf n (taskRow Read Either false 0) e 0 0
+    -- 102
+    pub verdict-read : k .act ≡ Read → verdictOf n k e index v ≡ verdictOf n (taskRow Read Either false 0) e 0 0
     unfolding verdictOf
-    verdict-room act h q = rw (h, array-there, element-there, q .0, q .1, q .2)
+    verdict-read h = rw (h, array-there, element-there)
 
     -- 5, 102, 1, 2
     pub verdict-change : k .act ≡ Change → verdictOf n k e index v ≡ verdictOf n (taskRow Change (k .width) false 0) e 0 v
@@ -85,6 +84,6 @@ module _ (n : ℕ) (k : Task) (e : Entry) (index v : ℕ) where
     verdict-change h = rw (h, array-there, element-there)
 
     -- none
-    pub verdict-count : k .act ≡ Count → verdictOf n k e index v ≡ Granted
+    pub verdict-none : (act : Act) → k .act ≡ act → (refusesAct act ≡ false) × (changesAct act ≡ false) × (movesValue act ≡ false) → verdictOf n k e index v ≡ Granted
     unfolding verdictOf
-    verdict-count h = rw (h, array-there, element-there, and-false (eqb n 3), and-false (e .double))
+    verdict-none act h q = rw (h, array-there, element-there, q .0, q .1, q .2, and-false (eqb n 3), and-false (e .double))

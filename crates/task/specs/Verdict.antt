@@ -1,12 +1,13 @@
 -- The errors of a task on a parameter (document 01, Parameter area), in the document's order; the first that applies counts.
 -- Of a task k with its index, and the value v that it carries, in an area of n words, on the record e of a parameter. Error 0 is given
 -- where no record is found.
---     errorNumber error             the document's number of an error
---     refusesAct act                whether error 106 answers; changesAct, countsAct: whether it is a change, or task 9
---     differsWidth width double     a word task on a double parameter or the reverse
---     verdictRows n k e index v     the errors' tests, in the document's order
---     verdictOf n k e index v       granted, or the error
---     elementOf k e index           the element that the task means
+--     errorNumber error                  the document's number of an error
+--     refusesAct act                     whether error 106 answers
+--     changesAct act, movesValue act     whether it is a change; whether it is a read or a change
+--     differsWidth width double          whether a word task meets a double parameter or the reverse
+--     verdictRows n k e index v          the errors' tests, in the document's order
+--     verdictOf n k e index v            granted, or the error
+--     elementOf k e index                the element that the task means
 use Prim.Native.Nat.{ℕ}
 use mathlib.Core.Bool.{Bool, true, false, not, _&&_, cond}
 use mathlib.Core.List.{List, [], _∷_}
@@ -48,12 +49,13 @@ changesAct Change = true
 changesAct Count = false
 changesAct Refuse = false
 
-abbrev pub countsAct : Act → Bool
-countsAct Nothing = false
-countsAct Read = false
-countsAct Change = false
-countsAct Count = true
-countsAct Refuse = false
+-- a read or a change: every task but 9, 0 and those that 106 answers
+abbrev pub movesValue : Act → Bool
+movesValue Nothing = false
+movesValue Read = true
+movesValue Change = true
+movesValue Count = false
+movesValue Refuse = false
 
 -- a word task on a double parameter or the reverse
 abbrev pub differsWidth : Width → Bool → Bool
@@ -71,7 +73,7 @@ lacksElement k e index = k .array && (not (eqb (e .elements) 0) && leb (e .eleme
 
 -- double parameter in a three-word area, except task 9
 abbrev pub lacksRoom : ℕ → Task → Entry → Bool
-lacksRoom n k e = e .double && (eqb n 3 && not (countsAct (k .act)))
+lacksRoom n k e = e .double && (eqb n 3 && movesValue (k .act))
 
 abbrev pub verdictRows : ℕ → Task → Entry → ℕ → ℕ → List (Bool × Verdict)
 verdictRows n k e index v =

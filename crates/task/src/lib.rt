@@ -124,8 +124,8 @@ fn differs(width: Width, double: bool) -> bool
     }
 }
 
-// Error 102, where neither index nor value is asked.
-fn judge_room(n: u8, e: Entry) -> Verdict
+// The error of a read: 102.
+fn judge_read(n: u8, e: Entry) -> Verdict
     ensures { λ r. ⌜ r ≡ verdictOf n (taskRow Read Either false 0) e 0 0 ⌝ }
 {
     if e.double {
@@ -136,7 +136,7 @@ fn judge_room(n: u8, e: Entry) -> Verdict
     Verdict::Granted
 }
 
-// The first error of a change whose index names an element that is there: 5, 102, 1, 2.
+// The first error of a change: 5, 102, 1, 2.
 fn judge_change(n: u8, width: Width, e: Entry, value: u32) -> Verdict
     ensures { λ r. ⌜ r ≡ verdictOf n (taskRow Change width false 0) e 0 value ⌝ }
 {
@@ -179,8 +179,8 @@ pub fn judge(n: u8, task: Task, e: Entry, index: u8, value: u32) -> Verdict
         }
     }
     match act {
-        Act::Nothing => judge_room(n, e),
-        Act::Read => judge_room(n, e),
+        Act::Nothing => Verdict::Granted,
+        Act::Read => judge_read(n, e),
         Act::Change => judge_change(n, width, e, value),
         Act::Count => Verdict::Granted,
         Act::Refuse => Verdict::Denied(ParameterError::NoTask),

@@ -3,16 +3,16 @@ use mathlib.Core.Path.{_≡_, refl, sym, _∙_}
 use mathlib.Core.Bool.{false}
 use mathlib.Core.Logic.{⊎-elim}
 use borrow.Author.Tests.{eq-eqb, ne-eqb, lt-ltb, le-ltb, lt-leb, le-leb}
-use Rattle.task.specs.declared.Act.the-variants.{Nothing, Read}
+use Rattle.task.specs.declared.Act.the-variants.{Nothing, Count}
 use Rattle.task.specs.Verdict.{refusesAct, lacksArray, lacksElement, verdictOf}
-use Rattle.task.proofs.VerdictLaws.{verdict-room, verdict-change, verdict-count}
+use Rattle.task.proofs.VerdictLaws.{verdict-read, verdict-change, verdict-none}
 use borrow.Author.Needs.{needs}
 use Rattle.task.proofs.judge.Statement.{statement}
 use Rattle.task.proofs.judge.Tie as tie
 use Rattle.task.proofs.judge.Reads as reads
 use Rattle.task.proofs.judge.Lts as lts
 use Rattle.task.proofs.judge_change.Reads as judge-change-reads
-use Rattle.task.proofs.judge_room.Reads as judge-room-reads
+use Rattle.task.proofs.judge_read.Reads as judge-read-reads
 use Rattle.task.proofs.refuses.Reads as refuses-reads
 
 -- 106 does not apply
@@ -57,14 +57,11 @@ returns-3 c =
 enum-told : tie.Need-enum-told
 enum-told c = search needs
 
-judge-room-requires : tie.Need-judge-room-requires
-judge-room-requires c κs = search needs
-
 enum-told-2 : tie.Need-enum-told-2
 enum-told-2 c = search needs
 
-judge-room-requires-2 : tie.Need-judge-room-requires-2
-judge-room-requires-2 c κs = search needs
+judge-read-requires : tie.Need-judge-read-requires
+judge-read-requires c κs = search needs
 
 enum-told-3 : tie.Need-enum-told-3
 enum-told-3 c = search needs
@@ -80,11 +77,10 @@ enum-told-5 c = search needs
 
 returns-4 : tie.Need-returns-4
 returns-4 c =
-    let m : tie.After-enum-told = search in
     let joined : tie.Joined2 = search in
     let start : tie.Start = search in
     let a = start .args in
-    rw (verdict-room (a .n) (a .task) (a .e) (a .index) (a .value) (there joined .0) (there joined .1) Nothing (m .enum-told .given .1) (refl, refl, refl)) (c .judge-room .ensures)
+    rw (verdict-none (a .n) (a .task) (a .e) (a .index) (a .value) (there joined .0) (there joined .1) Nothing (c .enum-told .given .1) (refl, refl, refl))
 
 returns-5 : tie.Need-returns-5
 returns-5 c =
@@ -92,7 +88,7 @@ returns-5 c =
     let joined : tie.Joined2 = search in
     let start : tie.Start = search in
     let a = start .args in
-    rw (verdict-room (a .n) (a .task) (a .e) (a .index) (a .value) (there joined .0) (there joined .1) Read (m .enum-told2 .given .1) (refl, refl, refl)) (c .judge-room2 .ensures)
+    rw (verdict-read (a .n) (a .task) (a .e) (a .index) (a .value) (there joined .0) (there joined .1) (m .enum-told2 .given .1)) (c .judge-read .ensures)
 
 returns-6 : tie.Need-returns-6
 returns-6 c =
@@ -107,7 +103,7 @@ returns-7 c =
     let joined : tie.Joined2 = search in
     let start : tie.Start = search in
     let a = start .args in
-    rw (verdict-count (a .n) (a .task) (a .e) (a .index) (a .value) (there joined .0) (there joined .1) (c .enum-told4 .given .1))
+    rw (verdict-none (a .n) (a .task) (a .e) (a .index) (a .value) (there joined .0) (there joined .1) Count (c .enum-told4 .given .1) (refl, refl, refl))
 
 returns-8 : tie.Need-returns-8
 unfolding verdictOf
@@ -122,9 +118,8 @@ judge-spec =
     returns-2
     returns-3
     enum-told
-    judge-room-requires
     enum-told-2
-    judge-room-requires-2
+    judge-read-requires
     enum-told-3
     judge-change-requires
     enum-told-4

@@ -1,10 +1,10 @@
--- `task::judge_room` meets its contract. Assumes nothing.
+-- `task::judge_read` meets its contract. Assumes nothing.
 use borrow.Author.Tests.{eq-eqb, ne-eqb}
 use Rattle.task.specs.Verdict.{verdictOf}
-use Rattle.task.proofs.judge_room.Statement.{statement}
-use Rattle.task.proofs.judge_room.Tie as tie
-use Rattle.task.proofs.judge_room.Reads as reads
-use Rattle.task.proofs.judge_room.Lts as lts
+use Rattle.task.proofs.judge_read.Statement.{statement}
+use Rattle.task.proofs.judge_read.Tie as tie
+use Rattle.task.proofs.judge_read.Reads as reads
+use Rattle.task.proofs.judge_read.Lts as lts
 
 returns : tie.Need-returns
 unfolding verdictOf
@@ -22,5 +22,5 @@ returns-3 : tie.Need-returns-3
 unfolding verdictOf
 returns-3 c = rw (c .if1 .left)
 
-pub judge-room-spec : {M : Type 1} → statement M
-judge-room-spec = tie.close (tie.spec returns returns-2 returns-3)
+pub judge-read-spec : {M : Type 1} → statement M
+judge-read-spec = tie.close (tie.spec returns returns-2 returns-3)
