@@ -1,0 +1,2 @@
+-- Laws of deeds.
+pub mod DeedLaws
