@@ -29,7 +29,7 @@ use Rattle.opening.specs.Answers.{openingOf}
 use Rattle.opening.specs.declared.Opening.{Opening}
 use Rattle.opening.specs.declared.Opening.the-variants.{Passed, Closed}
 use Rattle.area.specs.declared.Area.{Area}
-use Rattle.net.specs.Net.{netOf}
+use Rattle.area.specs.Net.{fixedWords, processWords, netOf}
 use Rattle.net.specs.Telegram.{telegramOf, written}
 use Rattle.control.specs.Control.{controlTaken, voidIn, controlCommanded}
 use Rattle.answers.specs.declared.Refusal.{Refusal}
@@ -80,7 +80,7 @@ taskAt n k = taskDone (areaCount (k .setup) n) (k .table) (k .memory) (k .receiv
 
 -- the reply has the same node and lengths, and status words as process words
 unfoldable pub replyOf : Setup → ℕ → Area → Words → List ℕ
-replyOf s n area status = telegramOf (s .node) (netOf area (areaCount s n) status (s .pzd))
+replyOf s n area status = telegramOf (s .node) (netOf (fixedWords (areaCount s n) area) (processWords (s .pzd) status))
 
 abbrev pub replyAt : ℕ → Call → List ℕ
 replyAt n k = replyOf (k .setup) n (taskAt n k .area) (k .status)
