@@ -1,6 +1,7 @@
 -- The telegrams that a master builds (document 01, Answer numbers 30 to 32): the ignored bits of PKE and IND and an ignored PWE1
 -- are written 0, the index always as given; a mirror carries the node with bit 6; a broadcast is written as given with node 0.
---     buildNumber f           the document's number of a refusal
+--     taskArea id number ..   the area of a task
+--     commandArea pkw ..      the area of a broadcast, in the setting PKW
 --     telegramFor s r net     the telegram of a request
 --     admitted s askable room the first of 30, 31, 32 that applies, or none; askable says whether the request can be asked
 --     builtOf s r net out     the answer, the length and the buffer afterwards
@@ -11,10 +12,11 @@ use mathlib.Core.List.{List, [], _∷_}
 use lib.Dec.{eqb, ltb}
 use lib.ListN.{length}
 use Rattle.rows.specs.Rows.{firstOf}
+use Rattle.words.specs.declared.Words.{Words}
 use Rattle.setup.specs.declared.Setup.{Setup}
 use Rattle.setup.specs.SetupRules.{setupOk}
 use Rattle.area.specs.declared.Area.{Area}
-use Rattle.net.specs.Net.{netOf}
+use Rattle.area.specs.Net.{fixedWords, processWords, netOf}
 use Rattle.net.specs.Telegram.{telegramOf, written}
 use Rattle.page.specs.Page.{nibbleOf}
 use Rattle.request.specs.declared.Request.{Request}
@@ -34,10 +36,14 @@ taskArea id number index value = record { pke = id * 4096 + number % 2000; ind =
 unfoldable pub commandArea : ℕ → ℕ → ℕ → ℕ → Area
 commandArea pkw selector mask1 mask2 = record { pke = selector; ind = mask1; value = cond (eqb pkw 4) (mask2 * 65536) mask2 }
 
+-- the net bytes of an area and process words; the settings PKW and PZD decide what is written
+abbrev pub netFor : Setup → Area → Words → List ℕ
+netFor s area process = netOf (fixedWords (s .pkw) area) (processWords (s .pzd) process)
+
 unfoldable pub telegramFor : Setup → Request → List ℕ → List ℕ
-telegramFor s (Task id number index value process) net = telegramOf (s .node) (netOf (taskArea id number index value) (s .pkw) process (s .pzd))
+telegramFor s (Task id number index value process) net = telegramOf (s .node) (netFor s (taskArea id number index value) process)
 telegramFor s Mirror net = telegramOf (s .node + 64) net
-telegramFor s (Broadcast selector mask1 mask2 process) net = telegramOf 32 (netOf (commandArea (s .pkw) selector mask1 mask2) (s .pkw) process (s .pzd))
+telegramFor s (Broadcast selector mask1 mask2 process) net = telegramOf 32 (netFor s (commandArea (s .pkw) selector mask1 mask2) process)
 
 pub record BuildOutcome : Type 0 where
   pub built : Built

@@ -5,10 +5,9 @@ ghost use mathlib.Core.List.{[]};
 ghost use Prim.Native.Nat.{_+_, _≤_};
 ghost use lib.ListN.{length};
 ghost use Rattle.net.specs.Telegram.{telegramOf};
-ghost use Rattle.net.specs.Net.{netOf};
 ghost use Rattle.setup.specs.SetupRules.{setupOk};
 ghost use Rattle.request.specs.declared.Request.the-variants.{Task, Mirror, Broadcast};
-ghost use Rattle.master.specs.Build.{Sends, Builds, taskArea, commandArea, admitted, builtOf};
+ghost use Rattle.master.specs.Build.{Sends, Builds, netFor, taskArea, commandArea, admitted, builtOf};
 use answers::BuildAnswer;
 use answers::BuildFault;
 use area::Area;
@@ -49,7 +48,7 @@ fn write_task(
     out: &mut [u8],
 ) -> usize
     requires { ⌜ (setupOk setup ≡ true) × (256 ≤ length (now out)) × (id ≤ 15) ⌝ }
-    ensures { λ r. ⌜ Sends (telegramOf (setup .node) (netOf (taskArea id number index value) (setup .pkw) process (setup .pzd))) (now (out .entry)) r (now (out .exit)) ⌝ }
+    ensures { λ r. ⌜ Sends (telegramOf (setup .node) (netFor setup (taskArea id number index value) process)) (now (out .entry)) r (now (out .exit)) ⌝ }
 {
     let nibble = page::nibble_of(number);
     let area = Area {
@@ -79,7 +78,7 @@ fn write_broadcast(
     out: &mut [u8],
 ) -> usize
     requires { ⌜ (setupOk setup ≡ true) × (256 ≤ length (now out)) ⌝ }
-    ensures { λ r. ⌜ Sends (telegramOf 32 (netOf (commandArea (setup .pkw) selector mask1 mask2) (setup .pkw) process (setup .pzd))) (now (out .entry)) r (now (out .exit)) ⌝ }
+    ensures { λ r. ⌜ Sends (telegramOf 32 (netFor setup (commandArea (setup .pkw) selector mask1 mask2) process)) (now (out .entry)) r (now (out .exit)) ⌝ }
 {
     let value = if setup.pkw == 4 {
         (mask2 as u32) * 65536

@@ -79,6 +79,15 @@ area-few s f = go (f .areas)
     go (inr (inl e)) = omega arith
     go (inr (inr e)) = omega arith
 
+-- an area has no word, or three at least
+pub area-sized : (s : Setup) → Configured s → (s .pkw ≡ 0) ⊎ (3 ≤ s .pkw)
+area-sized s f = go (f .areas)
+  where
+    go : (s .pkw ≡ 0) ⊎ Wide (s .pkw) → (s .pkw ≡ 0) ⊎ (3 ≤ s .pkw)
+    go (inl e) = inl e
+    go (inr (inl e)) = inr (omega arith)
+    go (inr (inr e)) = inr (omega arith)
+
 -- a parameter area has 3 or 4 words
 pub area-wide : (s : Setup) → Configured s → (s .pkw ≡ 0 → ⊥) → Wide (s .pkw)
 area-wide s c h = go (c .areas)

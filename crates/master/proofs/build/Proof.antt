@@ -33,20 +33,29 @@ same-length c = search needs
 
 returns : tie.Need-returns
 unfolding builtOf expressible telegramFor
-returns c = rw (c .before .before .before .before .before .request .given .1) (c .before .before .build-task .ensures)
+returns c =
+    let after-build-task : tie.After-build-task = search in
+    let after-request : tie.After-request = search in
+    rw (after-request .request .given .1) (after-build-task .build-task .ensures)
 
 same-length-2 : tie.Need-same-length-2
 same-length-2 c = search needs
 
 returns-2 : tie.Need-returns-2
-returns-2 c = rw (c .before .before .before .before .enum-told .given .1) (c .before .before .build-mirror .ensures)
+returns-2 c =
+    let after-build-mirror : tie.After-build-mirror = search in
+    let after-enum-told : tie.After-enum-told = search in
+    rw (after-enum-told .enum-told .given .1) (after-build-mirror .build-mirror .ensures)
 
 same-length-3 : tie.Need-same-length-3
 same-length-3 c = search needs
 
 returns-3 : tie.Need-returns-3
 unfolding builtOf expressible telegramFor
-returns-3 c = rw (c .before .before .before .before .before .request2 .given .1) (c .before .before .build-broadcast .ensures)
+returns-3 c =
+    let after-build-broadcast : tie.After-build-broadcast = search in
+    let after-request2 : tie.After-request2 = search in
+    rw (after-request2 .request2 .given .1) (after-build-broadcast .build-broadcast .ensures)
 
 pub build-spec : {M : Type 1} → statement M
 build-spec =

@@ -21,15 +21,19 @@ can-express-requires c κs = search needs
 admit-requires : tie.Need-admit-requires
 admit-requires c κs = search needs
 
-answered : (c : tie.After-admit) → (let a = c .before .before .before .before .args in Tested (a .setup) (Broadcast (a .selector) (a .mask1) (a .mask2) (a .process)) [] (a .out .now) (c .admit .result))
-answered c = by-tests (c .before .can-express .ensures) (c .admit .ensures)
+answered : (c : tie.After-admit) → (let start : tie.Start = search in let a = start .args in Tested (a .setup) (Broadcast (a .selector) (a .mask1) (a .mask2) (a .process)) [] (a .out .now) (c .admit .result))
+answered c =
+    let after-can-express : tie.After-can-express = search in
+    by-tests (after-can-express .can-express .ensures) (c .admit .ensures)
 
 enum-told : tie.Need-enum-told
 enum-told c = search needs
 
 write-broadcast-requires : tie.Need-write-broadcast-requires
 write-broadcast-requires c κs =
-    let b = tested-admitted (answered (c .before .before .before)) (c .before .enum-told .given .1) in
+    let after-enum-told : tie.After-enum-told = search in
+    let after-admit : tie.After-admit = search in
+    let b = tested-admitted (answered (after-admit)) (after-enum-told .enum-told .given .1) in
     (b .setup-good, b .enough)
 
 enum-known-answer : tie.Need-enum-known-answer
@@ -41,12 +45,16 @@ same-length c = search needs
 returns : tie.Need-returns
 unfolding telegramFor
 returns c =
-    let w = c .before .before in
-    let d = w .before .before in
-    builds-sent (answered (d .before .before)) (d .enum-told .given .1) (w .write-broadcast .ensures)
+    let w : tie.After-write-broadcast = search in
+    let d : tie.After-enum-told = search in
+    let after-admit : tie.After-admit = search in
+    builds-sent (answered (after-admit)) (d .enum-told .given .1) (w .write-broadcast .ensures)
 
 returns-2 : tie.Need-returns-2
-returns-2 c = builds-none (answered (c .before .before .before)) (c .before .answer .given .1)
+returns-2 c =
+    let after-answer : tie.After-answer = search in
+    let after-admit : tie.After-admit = search in
+    builds-none (answered (after-admit)) (after-answer .answer .given .1)
 
 pub build-broadcast-spec : {M : Type 1} → statement M
 build-broadcast-spec =

@@ -20,17 +20,21 @@ can-express-requires c κs = search needs
 admit-requires : tie.Need-admit-requires
 admit-requires c κs = search needs
 
-answered : (c : tie.After-admit) → (let a = c .before .before .before .before .args in Tested (a .setup) Mirror (a .net .now) (a .out .now) (c .admit .result))
-answered c = by-tests (c .before .can-express .ensures) (c .admit .ensures)
+answered : (c : tie.After-admit) → (let start : tie.Start = search in let a = start .args in Tested (a .setup) Mirror (a .net .now) (a .out .now) (c .admit .result))
+answered c =
+    let after-can-express : tie.After-can-express = search in
+    by-tests (after-can-express .can-express .ensures) (c .admit .ensures)
 
 enum-told : tie.Need-enum-told
 enum-told c = search needs
 
 write-mirror-requires : tie.Need-write-mirror-requires
 write-mirror-requires c κs =
-    let t = c .before .before .before in
-    let a = t .before .before .before .before .args in
-    let b = tested-admitted (answered t) (c .before .enum-told .given .1) in
+    let after-enum-told : tie.After-enum-told = search in
+    let t : tie.After-admit = search in
+    let start : tie.Start = search in
+    let a = start .args in
+    let b = tested-admitted (answered t) (after-enum-told .enum-told .given .1) in
     let n = mirror-asked (a .setup) (a .net .now) (b .asked) in
     (omega (arith, ok-configured (a .setup) (b .setup-good) .nodes), b .enough, n .0, n .1)
 
@@ -43,12 +47,16 @@ same-length c = search needs
 returns : tie.Need-returns
 unfolding telegramFor
 returns c =
-    let w = c .before .before in
-    let d = w .before .before in
-    builds-sent (answered (d .before .before)) (d .enum-told .given .1) (w .write-mirror .ensures)
+    let w : tie.After-write-mirror = search in
+    let d : tie.After-enum-told = search in
+    let after-admit : tie.After-admit = search in
+    builds-sent (answered (after-admit)) (d .enum-told .given .1) (w .write-mirror .ensures)
 
 returns-2 : tie.Need-returns-2
-returns-2 c = builds-none (answered (c .before .before .before)) (c .before .answer .given .1)
+returns-2 c =
+    let after-answer : tie.After-answer = search in
+    let after-admit : tie.After-admit = search in
+    builds-none (answered (after-admit)) (after-answer .answer .given .1)
 
 pub build-mirror-spec : {M : Type 1} → statement M
 build-mirror-spec =

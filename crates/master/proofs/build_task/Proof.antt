@@ -21,18 +21,22 @@ can-ask-requires c κs = search needs
 admit-requires : tie.Need-admit-requires
 admit-requires c κs = search needs
 
-answered : (c : tie.After-admit) → (let a = c .before .before .before .args in Tested (a .setup) (Task (a .id) (a .number) (a .index) (a .value) (a .process)) [] (a .out .now) (c .admit .result))
+answered : (c : tie.After-admit) → (let start : tie.Start = search in let a = start .args in Tested (a .setup) (Task (a .id) (a .number) (a .index) (a .value) (a .process)) [] (a .out .now) (c .admit .result))
 unfolding expressible
-answered c = by-tests (c .before .can-ask .ensures) (c .admit .ensures)
+answered c =
+    let after-can-ask : tie.After-can-ask = search in
+    by-tests (after-can-ask .can-ask .ensures) (c .admit .ensures)
 
 enum-told : tie.Need-enum-told
 enum-told c = search needs
 
 write-task-requires : tie.Need-write-task-requires
 write-task-requires c κs =
-    let t = c .before .before .before in
-    let a = t .before .before .before .args in
-    let b = tested-admitted (answered t) (c .before .enum-told .given .1) in
+    let after-enum-told : tie.After-enum-told = search in
+    let t : tie.After-admit = search in
+    let start : tie.Start = search in
+    let a = start .args in
+    let b = tested-admitted (answered t) (after-enum-told .enum-told .given .1) in
     (b .setup-good, b .enough, omega (arith, task-id (a .setup) (a .id) (a .number) (a .index) (a .value) (a .process) [] (b .asked)))
 
 enum-known-answer : tie.Need-enum-known-answer
@@ -44,12 +48,16 @@ same-length c = search needs
 returns : tie.Need-returns
 unfolding telegramFor
 returns c =
-    let w = c .before .before in
-    let d = w .before .before in
-    builds-sent (answered (d .before .before)) (d .enum-told .given .1) (w .write-task .ensures)
+    let w : tie.After-write-task = search in
+    let d : tie.After-enum-told = search in
+    let after-admit : tie.After-admit = search in
+    builds-sent (answered (after-admit)) (d .enum-told .given .1) (w .write-task .ensures)
 
 returns-2 : tie.Need-returns-2
-returns-2 c = builds-none (answered (c .before .before .before)) (c .before .answer .given .1)
+returns-2 c =
+    let after-answer : tie.After-answer = search in
+    let after-admit : tie.After-admit = search in
+    builds-none (answered (after-admit)) (after-answer .answer .given .1)
 
 pub build-task-spec : {M : Type 1} → statement M
 build-task-spec =

@@ -7,8 +7,8 @@ use native.Mathlib.Omega.{arith}
 use borrow.Author.Tests.{eq-eqb, ne-eqb}
 use lib.Dec.{eqb}
 use Rattle.area.specs.declared.Area.{Area}
-use Rattle.net.proofs.NetLaws.{normal-sent}
-use Rattle.setup.proofs.SetupLaws.{ok-configured, area-few}
+use Rattle.net.proofs.NormalLaws.{normal-sent}
+use Rattle.setup.proofs.SetupLaws.{ok-configured, area-few, area-sized}
 use Rattle.master.specs.Build.{commandArea}
 use borrow.Author.Needs.{needs}
 use Rattle.master.proofs.write_broadcast.Statement.{statement}
@@ -29,15 +29,15 @@ same-length c = search needs
 returns : tie.Need-returns
 unfolding commandArea
 returns c =
-    let w = c .before .before in
-    let j = w .before .before in
-    let s = j .before .before .before in
+    let w : tie.After-write-normal = search in
+    let j : tie.Joined1 = search in
+    let s : tie.Start = search in
     let a = s .args in
     let f = ok-configured (a .setup) (s .pre .0) in
     let e : j .if1 .value ≡ cond (eqb (a .setup .pkw) 4) (a .mask2 * 65536) (a .mask2) =
     ⊎-elim (λ x. rw (eq-eqb _ _ (x .0 .taken)) (x .1)) (λ x. rw (ne-eqb _ _ (x .0 .left)) (x .1)) (j .if1 .came) in
     let area : Area = record { pke = a .selector; ind = a .mask1; value = j .if1 .value } in
-    let m = normal-sent area (a .setup .pkw) (a .process) (a .setup .pzd) (f .process) (a .out .now) 32 (s .pre .1) (omega (arith, f .some)) (area-few (a .setup) f) in
+    let m = normal-sent area (a .setup .pkw) (a .process) (a .setup .pzd) (f .process) (area-sized (a .setup) f) (a .out .now) 32 (s .pre .1) (omega (arith, f .some)) (area-few (a .setup) f) in
     rw (← e) (record { long = w .write-normal .ensures .0 ∙ m .0; there = w .write-normal .ensures .1 ∙ m .1 })
 
 pub write-broadcast-spec : {M : Type 1} → statement M

@@ -27,9 +27,9 @@ same-length c = search needs
 
 returns : tie.Need-returns
 returns c =
-    let l = c .before .before in
-    let q = l .before .before .before .before in
-    let s = q .before .before .before .before in
+    let l : tie.After-seal = search in
+    let q : tie.After-put = search in
+    let s : tie.Start = search in
     let a = s .args in
     let net = a .net .now in
     let fit = put-fits (a .out .now) 3 net (omega arith) in

@@ -3,8 +3,8 @@ use mathlib.Core.Path.{_∙_}
 use Prim.Native.Nat.{_+_, _*_, _%_}
 use native.Mathlib.Omega.{arith}
 use Rattle.area.specs.declared.Area.{Area}
-use Rattle.net.proofs.NetLaws.{normal-sent}
-use Rattle.setup.proofs.SetupLaws.{ok-configured, area-few}
+use Rattle.net.proofs.NormalLaws.{normal-sent}
+use Rattle.setup.proofs.SetupLaws.{ok-configured, area-few, area-sized}
 use Rattle.page.proofs.PageLaws.{nibble-small}
 use Rattle.master.specs.Build.{taskArea}
 use borrow.Author.Needs.{needs}
@@ -28,10 +28,14 @@ cast-t14 : tie.Need-cast-t14
 cast-t14 c = search needs
 
 mul-t15 : tie.Need-mul-t15
-mul-t15 c = omega (arith, c .nibble-of .ensures, nibble-small (c .before .before .args .number))
+mul-t15 c =
+    let start : tie.Start = search in
+    omega (arith, c .nibble-of .ensures, nibble-small (start .args .number))
 
 add-t17 : tie.Need-add-t17
-add-t17 c = omega (arith, c .nibble-of .ensures, nibble-small (c .before .before .args .number))
+add-t17 c =
+    let start : tie.Start = search in
+    omega (arith, c .nibble-of .ensures, nibble-small (start .args .number))
 
 write-normal-requires : tie.Need-write-normal-requires
 write-normal-requires c κs = search needs
@@ -42,13 +46,13 @@ same-length c = search needs
 returns : tie.Need-returns
 unfolding taskArea
 returns c =
-    let w = c .before .before in
-    let n = w .before .before in
-    let s = n .before .before in
+    let w : tie.After-write-normal = search in
+    let n : tie.After-nibble-of = search in
+    let s : tie.Start = search in
     let a = s .args in
     let f = ok-configured (a .setup) (s .pre .0) in
     let area : Area = record { pke = a .id * 4096 + a .number % 2000; ind = n .nibble-of .result * 4096 + a .index; value = a .value } in
-    let m = normal-sent area (a .setup .pkw) (a .process) (a .setup .pzd) (f .process) (a .out .now) (a .setup .node) (s .pre .1) (omega (arith, f .some)) (area-few (a .setup) f) in
+    let m = normal-sent area (a .setup .pkw) (a .process) (a .setup .pzd) (f .process) (area-sized (a .setup) f) (a .out .now) (a .setup .node) (s .pre .1) (omega (arith, f .some)) (area-few (a .setup) f) in
     rw (← (n .nibble-of .ensures)) (record { long = w .write-normal .ensures .0 ∙ m .0; there = w .write-normal .ensures .1 ∙ m .1 })
 
 pub write-task-spec : {M : Type 1} → statement M
