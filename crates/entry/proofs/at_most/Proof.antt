@@ -17,16 +17,22 @@ to-signed-requires-2 c κs = search needs
 returns : tie.Need-returns
 unfolding atMost numberOf
 returns c =
-    rw (c .before .before .if1 .taken)
-    (compared _ _ _ _ (search needs) (search needs) (c .before .to-signed .ensures) (c .to-signed2 .ensures))
+    let after-to-signed : tie.After-to-signed = search in
+    let then1 : tie.Then1 = search in
+    rw (then1 .if1 .taken)
+    (compared _ _ _ _ (search needs) (search needs) (after-to-signed .to-signed .ensures) (c .to-signed2 .ensures))
 
 returns-2 : tie.Need-returns-2
 unfolding atMost numberOf
-returns-2 c = rw (c .before .if1 .left, c .if2 .taken)
+returns-2 c =
+    let else1 : tie.Else1 = search in
+    rw (else1 .if1 .left, c .if2 .taken)
 
 returns-3 : tie.Need-returns-3
 unfolding atMost numberOf
-returns-3 c = rw (c .before .if1 .left, c .if2 .left)
+returns-3 c =
+    let else1 : tie.Else1 = search in
+    rw (else1 .if1 .left, c .if2 .left)
 
 pub at-most-spec : {M : Type 1} → statement M
 at-most-spec =

@@ -14,7 +14,9 @@ returns : tie.Need-returns
 returns c = sym (count-none _ (c .if1 .taken))
 
 returns-2 : tie.Need-returns-2
-returns-2 c = sym (count-some _ (c .before .if1 .left))
+returns-2 c =
+    let else1 : tie.Else1 = search in
+    sym (count-some _ (else1 .if1 .left))
 
 pub count-places-spec : {M : Type 1} → statement M
 count-places-spec = tie.close (tie.spec cast-result returns returns-2)

@@ -34,20 +34,25 @@ at-most-requires c κs = search needs
 returns-4 : tie.Need-returns-4
 unfolding entryOk
 returns-4 c =
-    let b = c .before .before in
-    let a = b .before .before in
-    search (tests, sym (a .fits-in .ensures) ∙ b .before .if4 .taken, sym (b .fits-in2 .ensures) ∙ c .before .if5 .taken, c .at-most .ensures)
+    let then5 : tie.Then5 = search in
+    let b : tie.After-fits-in2 = search in
+    let then4 : tie.Then4 = search in
+    let a : tie.After-fits-in = search in
+    search (tests, sym (a .fits-in .ensures) ∙ then4 .if4 .taken, sym (b .fits-in2 .ensures) ∙ then5 .if5 .taken, c .at-most .ensures)
 
 returns-5 : tie.Need-returns-5
 unfolding entryOk
 returns-5 c =
-    let b = c .before in
-    let a = b .before .before in
-    search (tests, sym (a .fits-in .ensures) ∙ b .before .if4 .taken, sym (b .fits-in2 .ensures) ∙ c .if5 .left)
+    let b : tie.After-fits-in2 = search in
+    let then4 : tie.Then4 = search in
+    let a : tie.After-fits-in = search in
+    search (tests, sym (a .fits-in .ensures) ∙ then4 .if4 .taken, sym (b .fits-in2 .ensures) ∙ c .if5 .left)
 
 returns-6 : tie.Need-returns-6
 unfolding entryOk
-returns-6 c = search (tests, sym (c .before .fits-in .ensures) ∙ c .if4 .left)
+returns-6 c =
+    let after-fits-in : tie.After-fits-in = search in
+    search (tests, sym (after-fits-in .fits-in .ensures) ∙ c .if4 .left)
 
 pub entry-ok-spec : {M : Type 1} → statement M
 entry-ok-spec =

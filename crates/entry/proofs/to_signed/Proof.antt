@@ -15,7 +15,9 @@ cast-result c = search needs
 
 returns : tie.Need-returns
 unfolding signedOf
-returns c = rw (c .before .if1 .taken)
+returns c =
+    let then1 : tie.Then1 = search in
+    rw (then1 .if1 .taken)
 
 sub-result : tie.Need-sub-result
 sub-result c = search needs
@@ -24,23 +26,33 @@ cast-result-2 : tie.Need-cast-result-2
 cast-result-2 c = search needs
 
 sub-result-2 : tie.Need-sub-result-2
-sub-result-2 c = flip-fits (4294967295 - c .before .before .args .x) (omega arith)
+sub-result-2 c =
+    let start : tie.Start = search in
+    flip-fits (4294967295 - start .args .x) (omega arith)
 
 returns-2 : tie.Need-returns-2
 unfolding signedOf
 returns-2 c =
-    let x = c .before .before .args .x in
-    rw (c .before .if1 .taken) (flip-is (4294967295 - x) (omega arith) w32 x (omega arith) (omega arith))
+    let then1 : tie.Then1 = search in
+    let start : tie.Start = search in
+    let x = start .args .x in
+    rw (then1 .if1 .taken) (flip-is (4294967295 - x) (omega arith) w32 x (omega arith) (omega arith))
 
 cast-result-3 : tie.Need-cast-result-3
-cast-result-3 c = flip-word-fits (c .before .args .x % 65536) (omega arith)
+cast-result-3 c =
+    let start : tie.Start = search in
+    flip-word-fits (start .args .x % 65536) (omega arith)
 
 sub-result-3 : tie.Need-sub-result-3
-sub-result-3 c = word-fits-less (c .before .args .x % 65536) (omega arith)
+sub-result-3 c =
+    let start : tie.Start = search in
+    word-fits-less (start .args .x % 65536) (omega arith)
 
 returns-3 : tie.Need-returns-3
 unfolding signedOf
-returns-3 c = rw (c .if1 .left) (word-back (c .before .args .x % 65536) (omega arith))
+returns-3 c =
+    let start : tie.Start = search in
+    rw (c .if1 .left) (word-back (start .args .x % 65536) (omega arith))
 
 pub to-signed-spec : {M : Type 1} → statement M
 to-signed-spec =

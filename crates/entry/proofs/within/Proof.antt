@@ -21,18 +21,25 @@ at-most-requires-2 c κs = search needs
 returns : tie.Need-returns
 unfolding isWithin
 returns c =
-    let a = c .before .before in
-    search (sym (a .before .before .fits-in .ensures) ∙ a .before .if1 .taken, sym (a .at-most .ensures) ∙ c .before .if2 .taken, c .at-most2 .ensures)
+    let then2 : tie.Then2 = search in
+    let a : tie.After-at-most = search in
+    let then1 : tie.Then1 = search in
+    let after-fits-in : tie.After-fits-in = search in
+    search (sym (after-fits-in .fits-in .ensures) ∙ then1 .if1 .taken, sym (a .at-most .ensures) ∙ then2 .if2 .taken, c .at-most2 .ensures)
 
 returns-2 : tie.Need-returns-2
 unfolding isWithin
 returns-2 c =
-    let a = c .before in
-    search (sym (a .before .before .fits-in .ensures) ∙ a .before .if1 .taken, sym (a .at-most .ensures) ∙ c .if2 .left)
+    let a : tie.After-at-most = search in
+    let then1 : tie.Then1 = search in
+    let after-fits-in : tie.After-fits-in = search in
+    search (sym (after-fits-in .fits-in .ensures) ∙ then1 .if1 .taken, sym (a .at-most .ensures) ∙ c .if2 .left)
 
 returns-3 : tie.Need-returns-3
 unfolding isWithin
-returns-3 c = rw (sym (c .before .fits-in .ensures) ∙ c .if1 .left)
+returns-3 c =
+    let after-fits-in : tie.After-fits-in = search in
+    rw (sym (after-fits-in .fits-in .ensures) ∙ c .if1 .left)
 
 pub within-spec : {M : Type 1} → statement M
 within-spec =

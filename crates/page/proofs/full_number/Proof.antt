@@ -15,10 +15,14 @@ cast-result : tie.Need-cast-result
 cast-result c = search needs
 
 mul-result : tie.Need-mul-result
-mul-result c = omega (arith, c .page-of .ensures, page-small (c .before .args .ind))
+mul-result c =
+    let start : tie.Start = search in
+    omega (arith, c .page-of .ensures, page-small (start .args .ind))
 
 add-result : tie.Need-add-result
-add-result c = omega (arith, c .page-of .ensures, page-small (c .before .args .ind))
+add-result c =
+    let start : tie.Start = search in
+    omega (arith, c .page-of .ensures, page-small (start .args .ind))
 
 returns : tie.Need-returns
 returns c = search needs

@@ -42,10 +42,12 @@ join-double-requires c κs = search needs
 
 returns : tie.Need-returns
 returns c =
-    let j = c .before .before .before .before in
-    let at = j .before .before .before .before .args .at in
+    let after-join2 : tie.After-join2 = search in
+    let j : tie.After-join = search in
+    let start : tie.Start = search in
+    let at = start .args .at in
     let e : at + 2 + 1 ≡ at + 3 = omega arith in
-    c .join-double .ensures ∙ rw (c .before .join2 .ensures, j .join .ensures, e)
+    c .join-double .ensures ∙ rw (after-join2 .join2 .ensures, j .join .ensures, e)
 
 pub double-in-spec : {M : Type 1} → statement M
 double-in-spec =

@@ -33,22 +33,28 @@ loop-less c = omega arith
 
 loop-again : tie.Need-loop-again Inv-loop μ-loop
 loop-again c =
-    let e = c .before .before in
-    let l = e .before in
-    let t = now (l .before .before .args .t) in
-    (omega arith, l .loop .inv .1 ∙ rw (entries-step t _ (l .loop .k) (e .if1 .left)) (find-on _ _ _ _ (eqb-false _ _ (sym (c .before .has-number .ensures) ∙ c .if2 .left))))
+    let after-has-number : tie.After-has-number Inv-loop μ-loop = search in
+    let e : tie.Else1 Inv-loop μ-loop = search in
+    let l : tie.At-loop Inv-loop μ-loop = search in
+    let start : tie.Start Inv-loop μ-loop = search in
+    let t = now (start .args .t) in
+    (omega arith, l .loop .inv .1 ∙ rw (entries-step t _ (l .loop .k) (e .if1 .left)) (find-on _ _ _ _ (eqb-false _ _ (sym (after-has-number .has-number .ensures) ∙ c .if2 .left))))
 
 returns : tie.Need-returns Inv-loop μ-loop
 unfolding entries
-returns c = sym (c .before .loop .inv .1 ∙ rw (entries-end _ _ _ (c .if1 .taken)) (find-none _ _))
+returns c =
+    let at-loop : tie.At-loop Inv-loop μ-loop = search in
+    sym (at-loop .loop .inv .1 ∙ rw (entries-end _ _ _ (c .if1 .taken)) (find-none _ _))
 
 returns-2 : tie.Need-returns-2 Inv-loop μ-loop
 unfolding entries
 returns-2 c =
-    let e = c .before .before in
-    let l = e .before in
-    let t = now (l .before .before .args .t) in
-    sym (l .loop .inv .1 ∙ rw (entries-step t _ (l .loop .k) (e .if1 .left)) (find-here _ _ _ _ (eqb-true _ _ (sym (c .before .has-number .ensures) ∙ c .if2 .taken))))
+    let after-has-number : tie.After-has-number Inv-loop μ-loop = search in
+    let e : tie.Else1 Inv-loop μ-loop = search in
+    let l : tie.At-loop Inv-loop μ-loop = search in
+    let start : tie.Start Inv-loop μ-loop = search in
+    let t = now (start .args .t) in
+    sym (l .loop .inv .1 ∙ rw (entries-step t _ (l .loop .k) (e .if1 .left)) (find-here _ _ _ _ (eqb-true _ _ (sym (after-has-number .has-number .ensures) ∙ c .if2 .taken))))
 
 pub find-spec : {M : Type 1} → statement M
 find-spec =

@@ -16,7 +16,9 @@ shared-slice-read-if1 : tie.Need-shared-slice-read-if1
 shared-slice-read-if1 c = search needs
 
 cast-if1 : tie.Need-cast-if1
-cast-if1 c = omega (arith, c .shared-slice-known .given (12 * c .before .args .k))
+cast-if1 c =
+    let start : tie.Start = search in
+    omega (arith, c .shared-slice-known .given (12 * start .args .k))
 
 mul-result : tie.Need-mul-result
 mul-result c = search needs
@@ -28,17 +30,22 @@ shared-slice-read-result : tie.Need-shared-slice-read-result
 shared-slice-read-result c = search needs
 
 cast-result : tie.Need-cast-result
-cast-result c = omega (arith, c .shared-slice-known2 .given (12 * c .before .before .before .args .k + 1))
+cast-result c =
+    let start : tie.Start = search in
+    omega (arith, c .shared-slice-known2 .given (12 * start .args .k + 1))
 
 returns : tie.Need-returns
 returns c =
-    let s = c .before .before in
-    number-same (now (s .before .args .t)) (s .before .args .k) (s .before .args .number) (λ i. s .shared-slice-known .given i .fits) (c .before .if1 .taken)
+    let then1 : tie.Then1 = search in
+    let s : tie.After-shared-slice-known = search in
+    let start : tie.Start = search in
+    number-same (now (start .args .t)) (start .args .k) (start .args .number) (λ i. s .shared-slice-known .given i .fits) (then1 .if1 .taken)
 
 returns-2 : tie.Need-returns-2
 returns-2 c =
-    let s = c .before in
-    number-other (now (s .before .args .t)) (s .before .args .k) (s .before .args .number) (λ i. s .shared-slice-known .given i .fits) (c .if1 .left)
+    let s : tie.After-shared-slice-known = search in
+    let start : tie.Start = search in
+    number-other (now (start .args .t)) (start .args .k) (start .args .number) (λ i. s .shared-slice-known .given i .fits) (c .if1 .left)
 
 pub has-number-spec : {M : Type 1} → statement M
 has-number-spec =

@@ -24,8 +24,10 @@ double-in-requires-3 c κs = search needs
 returns-2 : tie.Need-returns-2
 unfolding recordOf
 returns-2 c =
-    let d = c .before .before in
-    rw (le-ltb _ 12 (d .before .if1 .left), d .double-in .ensures, c .before .double-in2 .ensures, c .double-in3 .ensures)
+    let after-double-in2 : tie.After-double-in2 = search in
+    let d : tie.After-double-in = search in
+    let else1 : tie.Else1 = search in
+    rw (le-ltb _ 12 (else1 .if1 .left), d .double-in .ensures, after-double-in2 .double-in2 .ensures, c .double-in3 .ensures)
 
 pub record-of-spec : {M : Type 1} → statement M
 record-of-spec =
