@@ -29,21 +29,21 @@ returns-2 : tie.Need-returns-2
 unfolding admitted
 returns-2 c =
     let else1 : tie.Else1 = search in
-    rw (good (else1), c .if2 .taken) refl
+    rw (good else1, c .if2 .taken) refl
 
 returns-3 : tie.Need-returns-3
 unfolding admitted
 returns-3 c =
     let else2 : tie.Else2 = search in
     let else1 : tie.Else1 = search in
-    rw (good (else1), else2 .if2 .left, lt-ltb _ _ (c .if3 .taken)) refl
+    rw (good else1, else2 .if2 .left, lt-ltb _ _ (c .if3 .taken)) refl
 
 returns-4 : tie.Need-returns-4
 unfolding admitted
 returns-4 c =
     let else2 : tie.Else2 = search in
     let else1 : tie.Else1 = search in
-    rw (good (else1), else2 .if2 .left, le-ltb _ _ (c .if3 .left)) refl
+    rw (good else1, else2 .if2 .left, le-ltb _ _ (c .if3 .left)) refl
 
 pub admit-spec : {M : Type 1} → statement M
 admit-spec = tie.close (tie.spec setup-ok-requires returns returns-2 returns-3 returns-4)

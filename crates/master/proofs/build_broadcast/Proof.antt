@@ -33,7 +33,7 @@ write-broadcast-requires : tie.Need-write-broadcast-requires
 write-broadcast-requires c κs =
     let after-enum-told : tie.After-enum-told = search in
     let after-admit : tie.After-admit = search in
-    let b = tested-admitted (answered (after-admit)) (after-enum-told .enum-told .given .1) in
+    let b = tested-admitted (answered after-admit) (after-enum-told .enum-told .given .1) in
     (b .setup-good, b .enough)
 
 enum-known-answer : tie.Need-enum-known-answer
@@ -48,13 +48,13 @@ returns c =
     let w : tie.After-write-broadcast = search in
     let d : tie.After-enum-told = search in
     let after-admit : tie.After-admit = search in
-    builds-sent (answered (after-admit)) (d .enum-told .given .1) (w .write-broadcast .ensures)
+    builds-sent (answered after-admit) (d .enum-told .given .1) (w .write-broadcast .ensures)
 
 returns-2 : tie.Need-returns-2
 returns-2 c =
     let after-answer : tie.After-answer = search in
     let after-admit : tie.After-admit = search in
-    builds-none (answered (after-admit)) (after-answer .answer .given .1)
+    builds-none (answered after-admit) (after-answer .answer .given .1)
 
 pub build-broadcast-spec : {M : Type 1} → statement M
 build-broadcast-spec =

@@ -50,13 +50,13 @@ returns c =
     let w : tie.After-write-mirror = search in
     let d : tie.After-enum-told = search in
     let after-admit : tie.After-admit = search in
-    builds-sent (answered (after-admit)) (d .enum-told .given .1) (w .write-mirror .ensures)
+    builds-sent (answered after-admit) (d .enum-told .given .1) (w .write-mirror .ensures)
 
 returns-2 : tie.Need-returns-2
 returns-2 c =
     let after-answer : tie.After-answer = search in
     let after-admit : tie.After-admit = search in
-    builds-none (answered (after-admit)) (after-answer .answer .given .1)
+    builds-none (answered after-admit) (after-answer .answer .given .1)
 
 pub build-mirror-spec : {M : Type 1} → statement M
 build-mirror-spec =

@@ -1,14 +1,12 @@
 -- `master::write_broadcast` meets its contract. Assumes nothing.
-use mathlib.Core.Path.{_≡_, _∙_}
+use mathlib.Core.Path.{_≡_}
 use mathlib.Core.Bool.{cond}
 use mathlib.Core.Logic.{⊎-elim}
 use Prim.Native.Nat.{_*_}
-use native.Mathlib.Omega.{arith}
 use borrow.Author.Tests.{eq-eqb, ne-eqb}
 use lib.Dec.{eqb}
 use Rattle.area.specs.declared.Area.{Area}
-use Rattle.net.proofs.NormalLaws.{normal-sent}
-use Rattle.setup.proofs.SetupLaws.{ok-configured, area-few, area-sized}
+use Rattle.master.proofs.BuildLaws.{sends-normal}
 use Rattle.master.specs.Build.{commandArea}
 use borrow.Author.Needs.{needs}
 use Rattle.master.proofs.write_broadcast.Statement.{statement}
@@ -33,12 +31,10 @@ returns c =
     let j : tie.Joined1 = search in
     let s : tie.Start = search in
     let a = s .args in
-    let f = ok-configured (a .setup) (s .pre .0) in
     let e : j .if1 .value ≡ cond (eqb (a .setup .pkw) 4) (a .mask2 * 65536) (a .mask2) =
     ⊎-elim (λ x. rw (eq-eqb _ _ (x .0 .taken)) (x .1)) (λ x. rw (ne-eqb _ _ (x .0 .left)) (x .1)) (j .if1 .came) in
     let area : Area = record { pke = a .selector; ind = a .mask1; value = j .if1 .value } in
-    let m = normal-sent area (a .setup .pkw) (a .process) (a .setup .pzd) (f .process) (area-sized (a .setup) f) (a .out .now) 32 (s .pre .1) (omega (arith, f .some)) (area-few (a .setup) f) in
-    rw (← e) (record { long = w .write-normal .ensures .0 ∙ m .0; there = w .write-normal .ensures .1 ∙ m .1 })
+    rw (← e) (sends-normal (a .setup) 32 area (a .process) (a .out .now) (s .pre .0) (s .pre .1) (w .write-normal .ensures))
 
 pub write-broadcast-spec : {M : Type 1} → statement M
 write-broadcast-spec = tie.close (tie.spec mul-value write-normal-requires same-length returns)

@@ -1,10 +1,8 @@
 -- `master::write_task` meets its contract. Assumes nothing.
-use mathlib.Core.Path.{_∙_}
 use Prim.Native.Nat.{_+_, _*_, _%_}
 use native.Mathlib.Omega.{arith}
 use Rattle.area.specs.declared.Area.{Area}
-use Rattle.net.proofs.NormalLaws.{normal-sent}
-use Rattle.setup.proofs.SetupLaws.{ok-configured, area-few, area-sized}
+use Rattle.master.proofs.BuildLaws.{sends-normal}
 use Rattle.page.proofs.PageLaws.{nibble-small}
 use Rattle.master.specs.Build.{taskArea}
 use borrow.Author.Needs.{needs}
@@ -50,10 +48,8 @@ returns c =
     let n : tie.After-nibble-of = search in
     let s : tie.Start = search in
     let a = s .args in
-    let f = ok-configured (a .setup) (s .pre .0) in
     let area : Area = record { pke = a .id * 4096 + a .number % 2000; ind = n .nibble-of .result * 4096 + a .index; value = a .value } in
-    let m = normal-sent area (a .setup .pkw) (a .process) (a .setup .pzd) (f .process) (area-sized (a .setup) f) (a .out .now) (a .setup .node) (s .pre .1) (omega (arith, f .some)) (area-few (a .setup) f) in
-    rw (← (n .nibble-of .ensures)) (record { long = w .write-normal .ensures .0 ∙ m .0; there = w .write-normal .ensures .1 ∙ m .1 })
+    rw (← (n .nibble-of .ensures)) (sends-normal (a .setup) (a .setup .node) area (a .process) (a .out .now) (s .pre .0) (s .pre .1) (w .write-normal .ensures))
 
 pub write-task-spec : {M : Type 1} → statement M
 write-task-spec =
