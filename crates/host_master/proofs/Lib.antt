@@ -1,0 +1,2 @@
+-- Laws behind the builds for a host.
+pub mod LengthLaws

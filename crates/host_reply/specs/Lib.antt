@@ -1,0 +1,2 @@
+-- What a reading returns to a host.
+pub mod Host
