@@ -1,6 +1,6 @@
 -- What it means that a request can be asked. Assumes nothing.
 use mathlib.Core.Path.{_≡_, refl, sym, ap, _∙_}
-use mathlib.Core.Bool.{Bool, true, false, not, _&&_, cond, false≢true}
+use mathlib.Core.Bool.{Bool, true, false, not, _&&_, cond, and-false, false≢true}
 use mathlib.Core.Logic.{_⊎_, inl, inr}
 use mathlib.Core.List.{List}
 use Prim.Native.Nat.{ℕ, _≤_, _<_}
@@ -10,13 +10,14 @@ use borrow.Author.Tests.{ltb-false, leb-true, eqb-true, eqb-false, not-true}
 use lib.Dec.{eqb, ltb, leb}
 use lib.ListN.{length}
 use Rattle.rows.proofs.BoolLaws.{and-left, and-right}
+use Rattle.rows.proofs.RangeLaws.{between}
 use Rattle.words.specs.declared.Words.{Words}
 use Rattle.setup.specs.declared.Setup.{Setup}
 use Rattle.task.specs.declared.Task.{Task as TaskKind}
-use Rattle.task.specs.Task.{taskOf}
+use Rattle.task.specs.Task.{tasks, taskOf}
 use Rattle.task.proofs.TaskLaws.{refused-on}
 use Rattle.request.specs.declared.Request.the-variants.{Task, Mirror}
-use Rattle.request.specs.Request.{unusedZero, valueFits, taskFits, expressible}
+use Rattle.request.specs.Request.{unusedZero, taskKnown, valueFits, taskFits, expressible}
 
 -- ---- tasks
 
@@ -29,6 +30,7 @@ pub record AllZero (number index value : ℕ) : Type 0 where
 pub record Asked (pkw id number index value : ℕ) : Type 0 where
   pub some : id ≡ 0 → ⊥
   pub area : pkw ≡ 0 → ⊥
+  pub known : taskKnown id ≡ true
   pub numbers : number ≤ 31999
   pub indices : index ≤ 254
   pub values : valueFits (taskOf id .act) (taskOf id .width) pkw value ≡ true
@@ -39,7 +41,7 @@ unfolding taskFits
 task-asked pkw id number index value h = go (eqb id 0) refl h
   where
     go : (b : Bool) → eqb id 0 ≡ b
-        → cond b (eqb number 0 && eqb index 0 && eqb value 0) (not (eqb pkw 0) && not (ltb 31999 number) && not (ltb 254 index) && valueFits (taskOf id .act) (taskOf id .width) pkw value) ≡ true
+        → cond b (eqb number 0 && eqb index 0 && eqb value 0) (not (eqb pkw 0) && taskKnown id && leb number 31999 && leb index 254 && valueFits (taskOf id .act) (taskOf id .width) pkw value) ≡ true
         → ((id ≡ 0) × AllZero number index value) ⊎ Asked pkw id number index value
     go true e f =
         let ni = eqb number 0 && eqb index 0 in
@@ -54,18 +56,34 @@ task-asked pkw id number index value h = go (eqb id 0) refl h
         )
     go false e f =
         let a = not (eqb pkw 0) in
-        let b = not (ltb 31999 number) in
-        let c = not (ltb 254 index) in
+        let k = taskKnown id in
+        let b = leb number 31999 in
+        let c = leb index 254 in
         let d = valueFits (taskOf id .act) (taskOf id .width) pkw value in
-        let abc = and-left (a && b && c) d f in
-        let ab = and-left (a && b) c abc in
+        let akbc = and-left (a && k && b && c) d f in
+        let akb = and-left (a && k && b) c akbc in
+        let ak = and-left (a && k) b akb in
         inr (record {
           some = eqb-false id 0 e;
-          area = eqb-false pkw 0 (not-true (eqb pkw 0) (and-left a b ab));
-          numbers = ltb-false 31999 number (not-true (ltb 31999 number) (and-right a b ab));
-          indices = ltb-false 254 index (not-true (ltb 254 index) (and-right (a && b) c abc));
-          values = and-right (a && b && c) d f;
+          area = eqb-false pkw 0 (not-true (eqb pkw 0) (and-left a k ak));
+          known = and-right a k ak;
+          numbers = leb-true number 31999 (and-right (a && k) b akb);
+          indices = leb-true index 254 (and-right (a && k && b) c akbc);
+          values = and-right (a && k && b && c) d f;
         })
+
+-- a value fits only what is a task
+pub known-fits : (id pkw value : ℕ)
+    → (taskKnown id && valueFits (taskOf id .act) (taskOf id .width) pkw value) ≡ valueFits (taskOf id .act) (taskOf id .width) pkw value
+unfolding taskKnown valueFits taskOf tasks
+known-fits id pkw value = go (decLt id 15)
+  where
+    go : Dec (id < 15) → (taskKnown id && valueFits (taskOf id .act) (taskOf id .width) pkw value) ≡ valueFits (taskOf id .act) (taskOf id .width) pkw value
+    go (yes h) =
+        between (λ k. (taskKnown k && valueFits (taskOf k .act) (taskOf k .width) pkw value) ≡ valueFits (taskOf k .act) (taskOf k .width) pkw value) 15 0
+        (refl, (refl, (refl, (refl, (refl, (refl, (refl, (refl, (refl, (refl, (refl, (refl, (refl, (refl, (refl, tt)))))))))))))))
+        id (omega arith) h
+    go (no h) = rw (refused-on id (omega arith), and-false (taskKnown id))
 
 -- a task ID that can be asked is below 15
 pub asked-id : (pkw id number index value : ℕ) → taskFits pkw id number index value ≡ true → id < 15

@@ -2,10 +2,12 @@
 -- number ≤ 31999, index ≤ 254, value 0 for tasks 1, 6, 9, at most 65535 for word changes, no double change in three words;
 -- unused process words 0, for task 0 too (ours). Mirror takes 1 to 252 net bytes; broadcast takes selector, masks and process words
 -- that are not void, unused ones 0.
---     unusedZero pzd w        the words past the first pzd are 0
---     taskFits pkw id ..      a task that can be asked in an area of pkw words
---     taskAskable s id ..     a task request that can be asked
---     expressible s r net     a request that can be asked; net are the net bytes of a mirror
+--     unusedZero pzd w                      the words past the first pzd are 0
+--     taskKnown id                          the task IDs that can be asked, but 0
+--     valueFits act width pkw value         the values that an act of that width can carry in an area of pkw words
+--     taskFits pkw id number index value    a task that can be asked in an area of pkw words
+--     taskAskable s id ..                   a task request that can be asked
+--     expressible s r net                   a request that can be asked; net are the net bytes of a mirror
 use Prim.Native.Nat.{ℕ}
 use mathlib.Core.Bool.{Bool, false, not, _&&_, _||_, cond}
 use mathlib.Core.List.{List}
@@ -34,7 +36,11 @@ unusedZero pzd w =
     && usedOrZero (ltb 2 pzd) (w .w3)
     && usedOrZero (ltb 3 pzd) (w .w4)
 
--- value 0 for tasks 1, 6, 9; at most 65535 for word changes; no double change in three words
+-- task 1-3, 6-9, 11-14
+unfoldable pub taskKnown : ℕ → Bool
+taskKnown id = (leb 1 id && leb id 3) || (leb 6 id && leb id 9) || (leb 11 id && leb id 14)
+
+-- value 0 for tasks 1, 6, 9; at most 65535 for word changes; no double change in three words. No value fits where none is carried
 unfoldable pub valueFits : Act → Width → ℕ → ℕ → Bool
 valueFits Nothing width pkw value = false
 valueFits Read width pkw value = eqb value 0
@@ -47,7 +53,11 @@ valueFits Refuse width pkw value = false
 unfoldable pub taskFits : ℕ → ℕ → ℕ → ℕ → ℕ → Bool
 taskFits pkw id number index value =
     cond (eqb id 0) (eqb number 0 && eqb index 0 && eqb value 0)
-    (not (eqb pkw 0) && not (ltb 31999 number) && not (ltb 254 index) && valueFits (taskOf id .act) (taskOf id .width) pkw value)
+    (not (eqb pkw 0)
+    && taskKnown id
+    && leb number 31999
+    && leb index 254
+    && valueFits (taskOf id .act) (taskOf id .width) pkw value)
 
 abbrev pub taskAskable : Setup → ℕ → ℕ → ℕ → ℕ → Words → Bool
 taskAskable s id number index value process = taskFits (s .pkw) id number index value && unusedZero (s .pzd) process

@@ -13,13 +13,18 @@ fits-task-requires : tie.Need-fits-task-requires
 fits-task-requires c κs = search needs
 
 returns : tie.Need-returns
-returns c = sym (rw (sym (c .before .fits-task .ensures) ∙ not-true _ (c .if1 .taken)))
+returns c =
+    let after-fits-task : tie.After-fits-task = search in
+    sym (rw (sym (after-fits-task .fits-task .ensures) ∙ not-true _ (c .if1 .taken)))
 
 leaves-zero-requires : tie.Need-leaves-zero-requires
 leaves-zero-requires c κs = search needs
 
 returns-2 : tie.Need-returns-2
-returns-2 c = c .leaves-zero .ensures ∙ sym (rw (sym (c .before .before .fits-task .ensures) ∙ not-false _ (c .before .if1 .left)))
+returns-2 c =
+    let else1 : tie.Else1 = search in
+    let after-fits-task : tie.After-fits-task = search in
+    c .leaves-zero .ensures ∙ sym (rw (sym (after-fits-task .fits-task .ensures) ∙ not-false _ (else1 .if1 .left)))
 
 pub can-ask-spec : {M : Type 1} → statement M
 can-ask-spec = tie.close (tie.spec fits-task-requires returns leaves-zero-requires returns-2)

@@ -12,13 +12,18 @@ is-void-requires : tie.Need-is-void-requires
 is-void-requires c κs = search needs
 
 returns : tie.Need-returns
-returns c = sym (rw (sym (c .before .is-void .ensures) ∙ c .if1 .taken))
+returns c =
+    let after-is-void : tie.After-is-void = search in
+    sym (rw (sym (after-is-void .is-void .ensures) ∙ c .if1 .taken))
 
 leaves-zero-requires : tie.Need-leaves-zero-requires
 leaves-zero-requires c κs = search needs
 
 returns-2 : tie.Need-returns-2
-returns-2 c = c .leaves-zero .ensures ∙ sym (rw (sym (c .before .before .is-void .ensures) ∙ c .before .if1 .left))
+returns-2 c =
+    let else1 : tie.Else1 = search in
+    let after-is-void : tie.After-is-void = search in
+    c .leaves-zero .ensures ∙ sym (rw (sym (after-is-void .is-void .ensures) ∙ else1 .if1 .left))
 
 pub can-command-spec : {M : Type 1} → statement M
 can-command-spec = tie.close (tie.spec is-void-requires returns leaves-zero-requires returns-2)

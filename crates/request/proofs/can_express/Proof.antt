@@ -20,7 +20,9 @@ enum-told c = search needs
 
 returns : tie.Need-returns
 unfolding expressible
-returns c = rw (c .before .enum-told .given .1, lt-ltb _ _ (c .if1 .taken))
+returns c =
+    let after-enum-told : tie.After-enum-told = search in
+    rw (after-enum-told .enum-told .given .1, lt-ltb _ _ (c .if1 .taken))
 
 enum-known-request-2 : tie.Need-enum-known-request-2
 enum-known-request-2 c = search needs
@@ -30,15 +32,21 @@ can-command-requires c κs = search needs
 
 returns-2 : tie.Need-returns-2
 unfolding expressible
-returns-2 c = rw (c .before .before .request .given .1) (c .can-ask .ensures)
+returns-2 c =
+    let after-request : tie.After-request = search in
+    rw (after-request .request .given .1) (c .can-ask .ensures)
 
 returns-3 : tie.Need-returns-3
 unfolding expressible
-returns-3 c = rw (c .before .enum-told .given .1, le-ltb _ _ (c .if1 .left))
+returns-3 c =
+    let after-enum-told : tie.After-enum-told = search in
+    rw (after-enum-told .enum-told .given .1, le-ltb _ _ (c .if1 .left))
 
 returns-4 : tie.Need-returns-4
 unfolding expressible
-returns-4 c = rw (c .before .before .request2 .given .1) (c .can-command .ensures)
+returns-4 c =
+    let after-request2 : tie.After-request2 = search in
+    rw (after-request2 .request2 .given .1) (c .can-command .ensures)
 
 pub can-express-spec : {M : Type 1} → statement M
 can-express-spec =

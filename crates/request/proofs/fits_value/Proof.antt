@@ -35,7 +35,9 @@ returns-2 c = rw (c .enum-told2 .given .1)
 
 returns-3 : tie.Need-returns-3
 unfolding valueFits
-returns-3 c = rw (c .before .enum-told3 .given .1) (c .fits-change .ensures)
+returns-3 c =
+    let after-enum-told3 : tie.After-enum-told3 = search in
+    rw (after-enum-told3 .enum-told3 .given .1) (c .fits-change .ensures)
 
 returns-4 : tie.Need-returns-4
 unfolding valueFits

@@ -33,44 +33,59 @@ module _ (pzd : ℕ) (w : Words) where
 
 returns : tie.Need-returns
 unfolding unusedZero
-returns c = let p = c .before .args .pzd in rw (lt-ltb 0 p (omega arith), lt-ltb 1 p (omega arith), lt-ltb 2 p (omega arith), lt-ltb 3 p (c .if1 .taken))
+returns c =
+    let start : tie.Start = search in
+    let p = start .args .pzd in rw (lt-ltb 0 p (omega arith), lt-ltb 1 p (omega arith), lt-ltb 2 p (omega arith), lt-ltb 3 p (c .if1 .taken))
 
 returns-2 : tie.Need-returns-2
-returns-2 c = sym (fourth-set _ _ (c .before .before .if1 .left) (c .if2 .taken))
+returns-2 c =
+    let else1 : tie.Else1 = search in
+    sym (fourth-set _ _ (else1 .if1 .left) (c .if2 .taken))
 
 returns-3 : tie.Need-returns-3
 unfolding unusedZero
 returns-3 c =
-    let p = c .before .before .before .before .args .pzd in
-    simp (lt-ltb 0 p (omega arith), lt-ltb 1 p (omega arith), lt-ltb 2 p (c .if3 .taken), eq-eqb _ 0 (c .before .if2 .left), or-true)
+    let else2 : tie.Else2 = search in
+    let start : tie.Start = search in
+    let p = start .args .pzd in
+    simp (lt-ltb 0 p (omega arith), lt-ltb 1 p (omega arith), lt-ltb 2 p (c .if3 .taken), eq-eqb _ 0 (else2 .if2 .left), or-true)
 
 returns-4 : tie.Need-returns-4
-returns-4 c = sym (third-set _ _ (c .before .before .if3 .left) (c .if4 .taken))
+returns-4 c =
+    let else3 : tie.Else3 = search in
+    sym (third-set _ _ (else3 .if3 .left) (c .if4 .taken))
 
 returns-5 : tie.Need-returns-5
 unfolding unusedZero
 returns-5 c =
-    let d = c .before .before .before .before in
-    let p = d .before .before .before .args .pzd in
-    simp (lt-ltb 0 p (omega arith), lt-ltb 1 p (c .if5 .taken), eq-eqb _ 0 (c .before .if4 .left), eq-eqb _ 0 (d .if2 .left), or-true)
+    let else4 : tie.Else4 = search in
+    let d : tie.Else2 = search in
+    let start : tie.Start = search in
+    let p = start .args .pzd in
+    simp (lt-ltb 0 p (omega arith), lt-ltb 1 p (c .if5 .taken), eq-eqb _ 0 (else4 .if4 .left), eq-eqb _ 0 (d .if2 .left), or-true)
 
 returns-6 : tie.Need-returns-6
-returns-6 c = sym (second-set _ _ (c .before .before .if5 .left) (c .if6 .taken))
+returns-6 c =
+    let else5 : tie.Else5 = search in
+    sym (second-set _ _ (else5 .if5 .left) (c .if6 .taken))
 
 returns-7 : tie.Need-returns-7
 unfolding unusedZero
 returns-7 c =
-    let e = c .before .before .before .before in
-    let d = e .before .before .before in
-    let p = d .before .before .before .args .pzd in
-    simp (lt-ltb 0 p (c .if7 .taken), eq-eqb _ 0 (c .before .if6 .left), eq-eqb _ 0 (e .if4 .left), eq-eqb _ 0 (d .if2 .left), or-true)
+    let else6 : tie.Else6 = search in
+    let e : tie.Else4 = search in
+    let d : tie.Else2 = search in
+    let start : tie.Start = search in
+    let p = start .args .pzd in
+    simp (lt-ltb 0 p (c .if7 .taken), eq-eqb _ 0 (else6 .if6 .left), eq-eqb _ 0 (e .if4 .left), eq-eqb _ 0 (d .if2 .left), or-true)
 
 returns-8 : tie.Need-returns-8
 returns-8 c =
-    let f = c .before .before in
-    let e = f .before .before .before in
-    let d = e .before .before .before in
-    sym (first-decides _ _ (c .before .if7 .left) (f .if6 .left) (e .if4 .left) (d .if2 .left))
+    let else7 : tie.Else7 = search in
+    let f : tie.Else6 = search in
+    let e : tie.Else4 = search in
+    let d : tie.Else2 = search in
+    sym (first-decides _ _ (else7 .if7 .left) (f .if6 .left) (e .if4 .left) (d .if2 .left))
 
 pub leaves-zero-spec : {M : Type 1} → statement M
 leaves-zero-spec = tie.close (tie.spec returns returns-2 returns-3 returns-4 returns-5 returns-6 returns-7 returns-8)
