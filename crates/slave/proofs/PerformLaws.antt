@@ -1,35 +1,27 @@
--- Laws of a parameter task. Assumes nothing.
-use mathlib.Core.Path.{_≡_, refl}
+-- Laws of a parameter task: what it means is in the table, and its place among the values. Assumes nothing.
+use mathlib.Core.Path.{_≡_, refl, _∙_}
 use mathlib.Core.Bool.{Bool, true, false}
 use mathlib.Core.List.{List}
-use Prim.Native.Nat.{ℕ, _+_, _*_, _/_, _%_, _≤_, _<_}
-use native.Mathlib.Decide.{decLt}
+use Prim.Native.Nat.{ℕ, _+_, _-_, _*_, _/_, _≤_, _<_}
 use native.Mathlib.Omega.{arith}
-use borrow.Author.Tests.{lt-ltb, le-ltb}
+use borrow.Author.Tests.{lt-ltb, le-ltb, eq-eqb, ne-eqb}
+use lib.Dec.{eqb}
 use lib.ListN.{length}
-use Rattle.entry.specs.declared.Entry.{Entry}
-use Rattle.entry.specs.Fields.{countOf}
 use Rattle.area.specs.declared.Area.{Area}
+use Rattle.area.specs.Read.{areaAt}
+use Rattle.entry.specs.Fields.{countOf}
 use Rattle.table.specs.declared.Found.{Found}
-use Rattle.table.specs.declared.Found.the-variants.{At}
+use Rattle.table.specs.declared.Found.the-variants.{At, Nothing}
 use Rattle.table.specs.Records.{findIn, entryAt, entries, firstPlace, countsOf}
 use Rattle.table.proofs.RecordsLaws.{found-below, places-fit, one-each}
-use Rattle.task.specs.declared.Task.{Task}
-use Rattle.task.specs.declared.ParameterError.{ParameterError}
+use Rattle.page.specs.Page.{baseOf, fullNumber, named}
 use Rattle.task.specs.declared.ParameterError.the-variants.{NoParameter}
-use Rattle.task.specs.declared.Verdict.the-variants.{Granted, Denied}
-use Rattle.rows.proofs.RangeLaws.{between}
-use Rattle.task.specs.Task.{tasks, taskOf, readReply, carried}
-use Rattle.page.specs.Page.{baseOf, fullNumber}
-use Rattle.task.specs.Verdict.{elementOf}
-use Rattle.task.proofs.TaskLaws.{refused-on}
-use Rattle.task.proofs.VerdictLaws.{granted-element}
-use Rattle.opening.specs.Lent.{Memory}
-use Rattle.slave.specs.Perform.{errorArea, doneOf, verdictFor, performOn, performFound, performTask, foundOf, idle}
-
-pub read-reply-le : (reply : ℕ) (double : Bool) → reply ≤ 14 → readReply reply double ≤ 15
-read-reply-le reply true h = omega arith
-read-reply-le reply false h = omega arith
+use Rattle.deed.specs.declared.Deed.{Deed}
+use Rattle.deed.specs.declared.Deed.the-variants.{Reply, Fetch, Write}
+use Rattle.deed.specs.Deed.{errorArea, deedOn, DeedFits}
+use Rattle.deed.proofs.DeedLaws.{deed-fits}
+use Rattle.slave.specs.declared.Plan.{Plan}
+use Rattle.slave.specs.Perform.{foundOf, replying, planOn, planIn, planAt}
 
 -- ---- what is found is one of the records, and its places are among the values
 
@@ -48,37 +40,53 @@ places-single t k h c = one-each t (length t / 12) k (omega arith) c
 
 -- ---- the cases of a task
 
--- every task but 0 is one to run or to refuse, so it is not idle
-pub task-busy : (id : ℕ) → (id ≡ 0 → ⊥) → idle (taskOf id .act) ≡ false
-unfolding taskOf tasks
-task-busy id some = go (decLt id 15)
+module _ (n : ℕ) (t : List ℕ) (a : Area) where
+  pub plan-unnamed : (a .pke / 4096 ≡ 0 → ⊥) → 2000 ≤ baseOf (a .pke) → planIn n t a ≡ replying (errorArea a NoParameter)
+  unfolding planIn foundOf
+  plan-unnamed i h = rw (ne-eqb (a .pke / 4096) 0 i, le-ltb _ _ h)
+
+  pub plan-found : (f : Found) → (a .pke / 4096 ≡ 0 → ⊥) → baseOf (a .pke) < 2000 → findIn t (fullNumber (a .pke) (a .ind)) ≡ f → planIn n t a ≡ planOn n t a f
+  unfolding planIn foundOf
+  plan-found f i h e = rw (ne-eqb (a .pke / 4096) 0 i, lt-ltb _ _ h, e)
+
+-- ---- the place of a plan is one of the values
+
+pub fits-more : (d : Deed) (m n : ℕ) → m ≤ n → DeedFits d m → DeedFits d n
+fits-more (Reply area) m n h f = tt
+fits-more (Fetch area element) m n h f = omega (arith, h, f)
+fits-more (Write area element) m n h f = omega (arith, h, f)
+
+-- the record that an area names is one that the search found
+pub named-found : (t : List ℕ) (a : Area) (k : ℕ) → foundOf t a ≡ At k → findIn t (fullNumber (a .pke) (a .ind)) ≡ At k
+unfolding foundOf
+named-found t a k e = go (named (a .pke)) refl
   where
-    go : Dec (id < 15) → idle (taskOf id .act) ≡ false
-    go (yes h) =
-        between (λ k. idle (taskOf k .act) ≡ false) 14 1
-        (refl, (refl, (refl, (refl, (refl, (refl, (refl, (refl, (refl, (refl, (refl, (refl, (refl, (refl, tt))))))))))))))
-        id (omega arith) h
-    go (no h) = rw (refused-on id (omega arith))
+    go : (b : Bool) → named (a .pke) ≡ b → findIn t (fullNumber (a .pke) (a .ind)) ≡ At k
+    go true p = rw p at e
+    go false p = let z : _≡_ {A = ℕ} 0 1 = cc in absurd (omega arith)
 
-module _ (n : ℕ) (k : Task) (a : Area) (e : Entry) (m : Memory) (first : ℕ) where
-  pub task-denied : (error : ParameterError) → verdictFor n k a e ≡ Denied error → performOn n k a e m first ≡ record { area = errorArea a error; memory = m }
-  unfolding performOn
-  task-denied error h = rw h
+module _ (n : ℕ) (t : List ℕ) (count : ℕ) (enough : countsOf (entries t) ≤ count) where
+  abbrev Fits : Plan → Type 0
+  Fits p = DeedFits (p .deed) (count - p .first)
 
-  pub task-granted : verdictFor n k a e ≡ Granted
-      → performOn n k a e m first
-      ≡ doneOf (k .act) (k .reply) a (e .double) (e .elements) (carried (k .width) (a .value)) m (first + elementOf k e (a .ind % 256))
-  unfolding performOn
-  task-granted h = rw h
+  on-fits : (a : Area) (f : Found) → foundOf t a ≡ f → Fits (planOn n t a f)
+  on-fits a Nothing e = tt
+  on-fits a (At k) e =
+      fits-more (deedOn n a (entryAt t k)) (countOf (entryAt t k)) (count - firstPlace t k)
+      (omega (arith, found-fits t (fullNumber (a .pke) (a .ind)) k (named-found t a k e), enough)) (deed-fits n a (entryAt t k))
 
-  pub granted-place : verdictFor n k a e ≡ Granted → first + countOf e ≤ length (m .values) → first + elementOf k e (a .ind % 256) < length (m .values)
-  granted-place h f = omega (arith, granted-element n k e (a .ind % 256) (carried (k .width) (a .value)) h)
+  in-fits : (a : Area) → Fits (planIn n t a)
+  unfolding planIn
+  in-fits a = go (eqb (a .pke / 4096) 0) refl
+    where
+      go : (b : Bool) → eqb (a .pke / 4096) 0 ≡ b → Fits (planIn n t a)
+      go true p = rw p tt
+      go false p = rw p (on-fits a (foundOf t a) refl)
 
-module _ (n : ℕ) (k : Task) (t : List ℕ) (m : Memory) (a : Area) where
-  pub task-unnamed : idle (k .act) ≡ false → 2000 ≤ baseOf (a .pke) → performTask n k t m a ≡ record { area = errorArea a NoParameter; memory = m }
-  unfolding foundOf
-  task-unnamed i h = rw (i, le-ltb _ _ h)
-
-  pub task-found : (f : Found) → idle (k .act) ≡ false → baseOf (a .pke) < 2000 → findIn t (fullNumber (a .pke) (a .ind)) ≡ f → performTask n k t m a ≡ performFound n k a t m f
-  unfolding foundOf
-  task-found f i h e = rw (i, lt-ltb _ _ h, e)
+  pub plan-fits : (rx : List ℕ) → Fits (planAt n t rx)
+  unfolding planAt
+  plan-fits rx = go (eqb n 0) refl
+    where
+      go : (b : Bool) → eqb n 0 ≡ b → Fits (planAt n t rx)
+      go true p = rw p tt
+      go false p = rw p (in-fits (areaAt rx n))

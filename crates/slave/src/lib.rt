@@ -1,34 +1,30 @@
 // The slave (document 01, Slave): one call takes a received page, runs its task on the lent values, and answers.
 ghost use mathlib.Core.Path.{_≡_};
 ghost use mathlib.Core.List.{List};
-ghost use Prim.Native.Nat.{ℕ, _+_, _*_, _≤_, _<_};
-ghost use lib.ListN.{length, set};
+ghost use Prim.Native.Nat.{ℕ, _+_, _-_, _*_, _≤_};
+ghost use lib.ListN.{length};
 ghost use Rattle.words.specs.declared.Words.{Words};
-ghost use Rattle.entry.specs.Fields.{countOf};
 ghost use Rattle.table.specs.Records.{entryAt, countsOf, entries, firstPlace};
-ghost use Rattle.task.specs.Task.{readReply, carried};
 ghost use Rattle.opening.specs.Lent.{Memory};
 ghost use Rattle.opening.specs.Answers.{openingOf};
 ghost use Rattle.opening.specs.declared.Opening.the-variants.{Passed};
-ghost use Rattle.slave.specs.Perform.{replyArea, errorArea, elementCount, doneOf, performOn, performOf, taskDone, Performs};
+ghost use Rattle.deed.specs.Deed.{DeedFits};
 ghost use Rattle.answers.specs.declared.Answer.the-variants.{Refused};
+ghost use Rattle.slave.specs.Perform.{planIn, planAt, doneBy, Performs};
 ghost use Rattle.slave.specs.Slave.{Leaves, normalCase, mirrorCase, broadcastCase, executeOf, callOf};
 use answers::Answer;
 use answers::OpeningFault;
 use answers::Refusal;
 use area::Area;
 use control::Commanded;
+use deed::Deed;
 use entry::Entry;
 use frame::Decoded;
 use frame::Fault;
 use opening::Opening;
 use setup::Setup;
 use table::Found;
-use task::Act;
 use task::ParameterError;
-use task::Task;
-use task::Verdict;
-use task::Width;
 use words::Words;
 
 // What a call returns: its answer, the reply's length, and the control words afterwards.
@@ -39,117 +35,6 @@ pub struct Served {
 }
 
 // ---- a parameter task
-
-// A reply's area: ID and value, with the task's base, page and index.
-fn reply_area(area: Area, id: u8, value: u32) -> Area
-    requires { ⌜ id ≤ 15 ⌝ }
-    ensures { λ r. ⌜ r ≡ replyArea area id value ⌝ }
-{
-    Area {
-        pke: (id as u16) * 4096 + area.pke % 2048,
-        ind: area.ind / 4096 * 4096 + area.ind % 256,
-        value,
-    }
-}
-
-// The reply's area of an error: ID 7 and the error's number.
-fn error_area(area: Area, error: ParameterError) -> Area
-    ensures { λ r. ⌜ r ≡ errorArea area error ⌝ }
-{
-    reply_area(area, 7, task::number_error(error) as u32)
-}
-
-// The value that a task carries: a word task only the low word.
-fn carry(width: Width, value: u32) -> u32
-    ensures { λ r. ⌜ r ≡ carried width value ⌝ }
-{
-    match width {
-        Width::Either => value,
-        Width::Word => value % 65536,
-        Width::Double => value,
-    }
-}
-
-// A change: one place is written.
-fn store(values: &mut [u32], place: usize, value: u32)
-    requires { ⌜ place < length (now values) ⌝ }
-    ensures { λ _. ⌜ now (values .exit) ≡ set (now (values .entry)) place value ⌝ }
-{
-    values[place] = value;
-}
-
-// The reply ID of a read: the next one for a double.
-fn pick_reply_id(reply: u8, double: bool) -> u8
-    requires { ⌜ reply ≤ 14 ⌝ }
-    ensures { λ r. ⌜ r ≡ readReply reply double ⌝ }
-{
-    if double { reply + 1 } else { reply }
-}
-
-// Task 9's answer: the number of elements, 1 where there is no array.
-fn count_elements(elements: u8) -> u32
-    ensures { λ r. ⌜ r ≡ elementCount elements ⌝ }
-{
-    if elements == 0 { 1 } else { elements as u32 }
-}
-
-// What an act does where no error applies.
-fn run_act(
-    act: Act,
-    reply: u8,
-    area: Area,
-    double: bool,
-    elements: u8,
-    value: u32,
-    values: &mut [u32],
-    place: usize,
-) -> Area
-    requires { ⌜ (reply ≤ 14) × (place < length (now values)) ⌝ }
-    ensures { λ r. ⌜ Performs (doneOf act reply area double elements value (record { values = now (values .entry) }) place) r (record { values = now (values .exit) }) ⌝ }
-{
-    match act {
-        Act::Nothing => area::empty_area(),
-        Act::Read => {
-            let value = values[place];
-            reply_area(area, pick_reply_id(reply, double), value)
-        }
-        Act::Change => {
-            store(values, place, value);
-            reply_area(area, reply, value)
-        }
-        Act::Count => reply_area(area, reply, count_elements(elements)),
-        Act::Refuse => error_area(area, ParameterError::NoTask),
-    }
-}
-
-// A task on a record whose first value place is `first`: the first error that applies, or the act.
-fn perform_on(n: u8, task: Task, area: Area, e: Entry, values: &mut [u32], first: usize) -> Area
-    requires { ⌜ (task .reply ≤ 14) × (first + countOf e ≤ length (now values)) ⌝ }
-    ensures { λ r. ⌜ Performs (performOn n task area e (record { values = now (values .entry) }) first) r (record { values = now (values .exit) }) ⌝ }
-{
-    let act = task.act;
-    let width = task.width;
-    let index = (area.ind % 256) as u8;
-    let value = carry(width, area.value);
-    let verdict = task::judge(n, task, e, index, value);
-    match verdict {
-        Verdict::Denied(error) => error_area(area, error),
-        Verdict::Granted => {
-            let element = task::pick_element(task, e, index);
-            let place = first + element as usize;
-            run_act(
-                act,
-                task.reply,
-                area,
-                e.double,
-                e.elements,
-                value,
-                values,
-                place,
-            )
-        }
-    }
-}
 
 // Record k of a table that has it.
 fn read_record(t: &[u8], k: usize) -> Entry
@@ -184,40 +69,84 @@ fn first_place(t: &[u8], k: usize, count: usize) -> usize
     sum_places(t, k)
 }
 
-// The task in an area of n words, on a table and values that passed the opening check. Task 0 does nothing, and no error is looked
-// for in it.
-fn perform(n: u8, table: &[u8], values: &mut [u32], area: Area) -> Area
-    requires { ⌜ (length (now table) ≤ 6144) × (countsOf (entries (now table)) ≤ length (now values)) ⌝ }
-    ensures { λ r. ⌜ Performs (performOf n (now (table .entry)) (record { values = now (values .entry) }) area) r (record { values = now (values .exit) }) ⌝ }
+// What a task asks of the values: the deed, and the first value place of the record that it means; 0 where it means none.
+struct Plan {
+    deed: Deed,
+    first: usize,
+}
+
+// The task in an area of n words, on a table of `count` places that passed the opening check. Task 0 does nothing, and no error is
+// looked for in it.
+fn plan_task(n: u8, table: &[u8], count: usize, area: Area) -> Plan
+    requires { ⌜ (length (now table) ≤ 6144) × (countsOf (entries (now table)) ≤ count) ⌝ }
+    ensures { λ r. ⌜ r ≡ planIn n (now (table .entry)) area ⌝ }
 {
-    let id = (area.pke / 4096) as u8;
-    if id == 0 {
-        return area::empty_area();
+    if area.pke / 4096 == 0 {
+        return Plan {
+            deed: Deed::Reply {
+                area: area::empty_area(),
+            },
+            first: 0,
+        };
     }
     if 2000 <= area.pke % 2048 {
-        return error_area(area, ParameterError::NoParameter);
+        return Plan {
+            deed: deed::deny(area, ParameterError::NoParameter),
+            first: 0,
+        };
     }
-    let number = page::full_number(area.pke, area.ind);
-    match table::find(table, number) {
-        Found::Nothing => error_area(area, ParameterError::NoParameter),
+    match table::find(table, page::full_number(area.pke, area.ind)) {
+        Found::Nothing => Plan {
+            deed: deed::deny(area, ParameterError::NoParameter),
+            first: 0,
+        },
         Found::At(k) => {
             let e = read_record(table, k);
-            let first = first_place(table, k, values.len());
-            perform_on(n, task::task_of(id), area, e, values, first)
+            let first = first_place(table, k, count);
+            Plan {
+                deed: deed::plan(n, area, e),
+                first,
+            }
         }
     }
 }
 
-// The parameter task of a telegram, if PKW is not 0.
-fn run_task(n: u8, table: &[u8], values: &mut [u32], received: &[u8]) -> Area
-    requires { ⌜ (length (now table) ≤ 6144) × (countsOf (entries (now table)) ≤ length (now values)) ⌝ }
-    ensures { λ r. ⌜ Performs (taskDone n (now (table .entry)) (record { values = now (values .entry) }) (now (received .entry))) r (record { values = now (values .exit) }) ⌝ }
+// The parameter task of a telegram whose area has n words, if it has one.
+fn plan_area(n: u8, table: &[u8], count: usize, received: &[u8]) -> Plan
+    requires { ⌜ (length (now table) ≤ 6144) × (countsOf (entries (now table)) ≤ count) ⌝ }
+    ensures { λ r. ⌜ r ≡ planAt n (now (table .entry)) (now (received .entry)) ⌝ }
 {
     if n == 0 {
-        return area::empty_area();
+        return Plan {
+            deed: Deed::Reply {
+                area: area::empty_area(),
+            },
+            first: 0,
+        };
     }
-    let area = area::read_area(received, n);
-    perform(n, table, values, area)
+    plan_task(n, table, count, area::read_area(received, n))
+}
+
+// The deed done, on a record whose first value place is `first`: a task reads and writes the values here alone.
+fn do_deed(deed: Deed, first: usize, values: &mut [u32]) -> Area
+    requires { ⌜ DeedFits deed (length (now values) - first) ⌝ }
+    ensures { λ r. ⌜ Performs (doneBy deed first (record { values = now (values .entry) })) r (record { values = now (values .exit) }) ⌝ }
+{
+    match deed {
+        Deed::Reply { area } => area,
+        Deed::Fetch { area, element } => {
+            let value = values[first + element as usize];
+            Area {
+                pke: area.pke,
+                ind: area.ind,
+                value,
+            }
+        }
+        Deed::Write { area, element } => {
+            values[first + element as usize] = area.value;
+            area
+        }
+    }
 }
 
 // ---- the call
@@ -255,7 +184,9 @@ fn serve_normal(
         return refuse(Refusal::OtherLength, control);
     }
     let count = setup::area_count(setup, n);
-    let area = run_task(count, table, values, received);
+    let plan = plan_area(count, table, values.len(), received);
+    let deed = plan.deed;
+    let area = do_deed(deed, plan.first, values);
     let next = control::take_control(setup, n, control, received);
     let length = net::write_normal(reply, setup.node, area, count, status, setup.pzd);
     Served {

@@ -1,10 +1,13 @@
 -- `slave::serve_normal` meets its contract: 16, 17, then task, control words and reply. Assumes nothing.
-use mathlib.Core.Path.{refl, sym, _∙_}
+use mathlib.Core.Path.{_≡_, refl, sym, _∙_}
 use native.Mathlib.Omega.{arith}
+use Rattle.setup.specs.SetupRules.{areaCount}
 use Rattle.setup.proofs.SetupLaws.{ok-configured, node-own, node-other}
 use Rattle.opening.proofs.AnswersLaws.{Opened, passed-opened}
 use Rattle.slave.proofs.CaseLaws.{normal-other-node, normal-other-length, normal-replied, reply-sent}
 use Rattle.slave.specs.Slave.{Call, lentBy}
+use Rattle.slave.specs.Perform.{planAt}
+use Rattle.slave.proofs.PerformLaws.{plan-fits}
 use borrow.Author.Needs.{needs}
 use Rattle.slave.proofs.serve_normal.Statement.{statement}
 use Rattle.slave.proofs.serve_normal.Tie as tie
@@ -13,7 +16,8 @@ use Rattle.slave.proofs.serve_normal.Lts as lts
 use Rattle.net.proofs.write_normal.Reads as write-normal-reads
 use Rattle.setup.proofs.is_other_length.Reads as is-other-length-reads
 use Rattle.slave.proofs.refuse.Reads as refuse-reads
-use Rattle.slave.proofs.run_task.Reads as run-task-reads
+use Rattle.slave.proofs.do_deed.Reads as do-deed-reads
+use Rattle.slave.proofs.plan_area.Reads as plan-area-reads
 use Rattle.control.proofs.take_control.Reads as take-control-reads
 use Rattle.setup.proofs.area_count.Reads as area-count-reads
 
@@ -67,11 +71,25 @@ returns-2 c =
 area-count-requires : tie.Need-area-count-requires
 area-count-requires c κs = search needs
 
-run-task-requires : tie.Need-run-task-requires
-run-task-requires c κs =
+plan-area-requires : tie.Need-plan-area-requires
+plan-area-requires c κs =
     let start : tie.Start = search in
     let o = opened start in
     (o .short, omega (arith, o .count))
+
+-- what the telegram asks
+planned : (c : tie.After-plan-area) → (let s : tie.Start = search in let a = s .args in c .plan-area .result ≡ planAt (areaCount (a .setup) (a .n)) (a .table .now) (a .received .now))
+planned c =
+    let count : tie.After-area-count = search in
+    rw (← (count .area-count .ensures)) (c .plan-area .ensures)
+
+do-deed-requires : tie.Need-do-deed-requires
+do-deed-requires c κs =
+    let p : tie.After-plan-area = search in
+    let l : tie.After-is-other-length = search in
+    let s = start-of l in
+    let a = s .args in
+    rw (planned p) (plan-fits (areaCount (a .setup) (a .n)) (a .table .now) _ (omega (arith, opened s .count)) (a .received .now))
 
 take-control-requires : tie.Need-take-control-requires
 take-control-requires c κs = search needs
@@ -89,7 +107,8 @@ returns-3 : tie.Need-returns-3
 returns-3 c =
     let w : tie.After-write-normal = search in
     let k : tie.After-take-control = search in
-    let r : tie.After-run-task = search in
+    let d : tie.After-do-deed = search in
+    let p : tie.After-plan-area = search in
     let count : tie.After-area-count = search in
     let e : tie.Else2 = search in
     let l : tie.After-is-other-length = search in
@@ -98,9 +117,9 @@ returns-3 c =
     let a = s .args in
     let o = opened s in
     let words = count .area-count .ensures in
-    let done = rw words at (r .run-task .ensures) in
+    let done = rw (planned p) at (d .do-deed .ensures) in
     let wrote = rw words at (w .write-normal .ensures) in
-    let m = reply-sent (a .setup) (a .n) (r .run-task .result) (a .status) (a .reply .now) (ok-configured (a .setup) (o .setup-good)) (o .buffer) in
+    let m = reply-sent (a .setup) (a .n) (d .do-deed .result) (a .status) (a .reply .now) (ok-configured (a .setup) (o .setup-good)) (o .buffer) in
     rw (normal-replied (a .node) (a .n) (call s) (node-own (a .setup) (a .node) (else1 .if1 .left)) (sym (l .is-other-length .ensures) ∙ e .if2 .left), ← (done .area-is))
     (record {
       answers = rw (wrote .0 ∙ m .0, k .take-control .ensures);
@@ -118,7 +137,8 @@ serve-normal-spec =
     refuse-requires-2
     returns-2
     area-count-requires
-    run-task-requires
+    plan-area-requires
+    do-deed-requires
     take-control-requires
     write-normal-requires
     same-length
