@@ -11,7 +11,6 @@ use Rattle.frame.specs.declared.FrameCheck.the-variants.{Sound}
 use Rattle.setup.specs.declared.Setup.{Setup}
 use Rattle.setup.specs.SetupRules.{setupOk}
 use Rattle.setup.proofs.SetupLaws.{ok-configured}
-use Rattle.net.specs.Net.{netOf}
 use Rattle.net.specs.Telegram.{telegramOf}
 use Rattle.net.proofs.SealLaws.{length-telegram, telegram-passes, written-first, written-rest, written-long}
 use Rattle.request.specs.declared.Request.{Request}
@@ -19,7 +18,7 @@ use Rattle.request.specs.declared.Request.the-variants.{Task, Mirror, Broadcast
 use Rattle.request.specs.Request.{expressible}
 use Rattle.request.proofs.RequestLaws.{mirror-asked}
 use Rattle.answers.specs.declared.BuildAnswer.the-variants.{Done}
-use Rattle.master.specs.Build.{taskArea, commandArea, telegramFor, sent, builtOf}
+use Rattle.master.specs.Build.{taskArea, commandArea, netFor, telegramFor, sent, builtOf}
 use Rattle.master.proofs.BuildLaws.{done-buildable}
 use Rattle.claims_master.specs.Claims.{SoundBuild}
 use Rattle.claims_master.proofs.SentLaws.{net-some, net-fits}
@@ -40,12 +39,12 @@ unfolding telegramFor
 request-sound s (Task id number index value process) net ok asked =
     let c = ok-configured s ok in
     let a = taskArea id number index value in
-    telegram-sound (s .node) (netOf a (s .pkw) process (s .pzd)) (net-some s c a process) (net-fits s c a process)
+    telegram-sound (s .node) (netFor s a process) (net-some s c a process) (net-fits s c a process)
 request-sound s Mirror net ok asked = telegram-sound (s .node + 64) net (mirror-asked s net asked .0) (mirror-asked s net asked .1)
 request-sound s (Broadcast selector mask1 mask2 process) net ok asked =
     let c = ok-configured s ok in
     let a = commandArea (s .pkw) selector mask1 mask2 in
-    telegram-sound 32 (netOf a (s .pkw) process (s .pzd)) (net-some s c a process) (net-fits s c a process)
+    telegram-sound 32 (netFor s a process) (net-some s c a process) (net-fits s c a process)
 
 -- what a telegram at the front of a buffer leaves
 sent-passes : (s : Setup) (r : Request) (net out : List ℕ) → SoundTelegram (telegramFor s r net) → 256 ≤ length out → SoundBuild s r net out (sent (telegramFor s r net) out)

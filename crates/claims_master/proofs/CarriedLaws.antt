@@ -7,7 +7,7 @@ use native.Mathlib.Omega.{arith}
 use borrow.Author.Tests.{eqb-true, leb-true}
 use Rattle.setup.specs.declared.Setup.{Setup}
 use Rattle.setup.proofs.SetupLaws.{Configured, Wide, area-wide}
-use Rattle.net.proofs.ReadLaws.{Headed}
+use Rattle.area.proofs.WordLaws.{Headed}
 use Rattle.task.specs.declared.Act.{Act}
 use Rattle.task.specs.declared.Act.the-variants.{Nothing, Read, Change, Count, Refuse}
 use Rattle.task.specs.declared.Width.{Width}

@@ -1,32 +1,42 @@
 -- The telegrams of a set-up that may be used. Assumes nothing.
-use mathlib.Core.Path.{_≡_, _∙_}
-use Prim.Native.Nat.{_+_, _≤_}
+use mathlib.Core.Path.{_≡_, ap, _∙_}
+use mathlib.Core.Bool.{false}
+use Prim.Native.Nat.{ℕ, _+_, _-_, _≤_}
 use native.Mathlib.Omega.{arith}
 use lib.ListN.{length}
 use Rattle.words.specs.declared.Words.{Words}
-use Rattle.frame.specs.Address.{decodedOf}
+use Rattle.frame.specs.Address.{decodedOf, kindOf}
+use Rattle.frame.specs.declared.Address.{Address}
 use Rattle.frame.specs.declared.Decoded.the-variants.{Normal}
 use Rattle.frame.proofs.AddressLaws.{to-one}
 use Rattle.setup.specs.declared.Setup.{Setup}
-use Rattle.setup.specs.SetupRules.{netBytes}
-use Rattle.setup.proofs.SetupLaws.{Configured, area-few}
+use Rattle.setup.specs.SetupRules.{netBytes, otherLength}
+use Rattle.setup.proofs.SetupLaws.{Configured, area-few, area-sized, length-own}
 use Rattle.area.specs.declared.Area.{Area}
-use Rattle.net.specs.Net.{netOf}
 use Rattle.net.specs.Telegram.{telegramOf}
-use Rattle.net.proofs.NetLaws.{length-net}
-use Rattle.net.proofs.SealLaws.{telegram-decoded}
+use Rattle.net.proofs.NormalLaws.{length-normal}
+use Rattle.net.proofs.SealLaws.{length-telegram, telegram-decoded}
+use Rattle.master.specs.Build.{netFor}
+use Rattle.claims_master.specs.Claims.{netCount}
 
 module _ (s : Setup) (c : Configured s) (a : Area) (w : Words) where
-  pub net-count : length (netOf a (s .pkw) w (s .pzd)) ≡ netBytes s
-  net-count = length-net a (s .pkw) w (s .pzd) (c .process) ∙ omega arith
+  net-long : length (netFor s a w) ≡ netBytes s
+  net-long = omega (arith, length-telegram 0 (netFor s a w), length-normal a (s .pkw) w (s .pzd) (c .process) (area-sized s c) 0)
 
-  pub net-some : 1 ≤ length (netOf a (s .pkw) w (s .pzd))
-  net-some = omega (arith, net-count, c .some)
+  pub net-some : 1 ≤ length (netFor s a w)
+  net-some = omega (arith, net-long, c .some)
 
-  pub net-fits : length (netOf a (s .pkw) w (s .pzd)) ≤ 252
-  net-fits = omega (arith, net-count, area-few s c, c .process)
+  pub net-fits : length (netFor s a w) ≤ 252
+  net-fits = omega (arith, net-long, area-few s c, c .process)
 
-  -- a normal telegram of the set-up's node
-  pub normal-decoded : decodedOf (telegramOf (s .node) (netOf a (s .pkw) w (s .pzd))) ≡ Normal (s .node) 3 (netBytes s + 3)
+  -- they have the set-up's length
+  pub own-count : (adr : ℕ) → otherLength s (netCount (telegramOf adr (netFor s a w))) ≡ false
+  own-count adr = length-own s (netCount (telegramOf adr (netFor s a w))) (omega (arith, net-long, length-telegram adr (netFor s a w)))
+
+  -- to the set-up's node, a normal telegram
+  pub normal-decoded : decodedOf (telegramOf (s .node) (netFor s a w)) ≡ Normal (s .node) 3 (netCount (telegramOf (s .node) (netFor s a w)) + 3)
   normal-decoded =
-      telegram-decoded (s .node) (netOf a (s .pkw) w (s .pzd)) net-some net-fits ∙ rw (to-one (s .node) (c .nodes), net-count)
+      let t = telegramOf (s .node) (netFor s a w) in
+      let last : length (netFor s a w) + 3 ≡ netCount t + 3 = omega (arith, length-telegram (s .node) (netFor s a w)) in
+      telegram-decoded (s .node) (netFor s a w) net-some net-fits ∙ ap (λ (x : Address). kindOf x (length (netFor s a w) + 3)) (to-one (s .node) (c .nodes))
+      ∙ ap (λ (e : ℕ). Normal (s .node) 3 e) last

@@ -1,3 +1,3 @@
--- What is claimed of telegrams that a master builds and of replies that it reads.
+-- What is claimed of telegrams that a master builds.
 pub mod Claims
 pub mod AnswerTable

@@ -3,7 +3,8 @@
 --     taskArea id number ..   the area of a task
 --     commandArea pkw ..      the area of a broadcast, in the setting PKW
 --     telegramFor s r net     the telegram of a request
---     admitted s askable room the first of 30, 31, 32 that applies, or none; askable says whether the request can be asked
+--     admitRows s askable ..  the lines 30, 31, 32; askable says whether the request can be asked
+--     admitted s askable room the first of them that applies, or none
 --     builtOf s r net out     the answer, the length and the buffer afterwards
 use mathlib.Core.Path.{_≡_}
 use Prim.Native.Nat.{ℕ, _+_, _*_, _%_}
@@ -71,9 +72,13 @@ abbrev pub outcomeOf : BuildAnswer → List ℕ → List ℕ → BuildOutcome
 outcomeOf Done telegram out = sent telegram out
 outcomeOf (Refused fault) telegram out = unbuilt fault out
 
+-- set-up as 20; request not expressible; buffer under 256
+abbrev pub admitRows : Setup → Bool → ℕ → List (Bool × BuildAnswer)
+admitRows s askable room =
+    (not (setupOk s), Refused BadSetup) ∷ (not askable, Refused NotExpressible) ∷ (ltb room 256, Refused ShortBuffer) ∷ []
+
 unfoldable pub admitted : Setup → Bool → ℕ → BuildAnswer
-admitted s askable room =
-    firstOf ((not (setupOk s), Refused BadSetup) ∷ (not askable, Refused NotExpressible) ∷ (ltb room 256, Refused ShortBuffer) ∷ []) Done
+admitted s askable room = firstOf (admitRows s askable room) Done
 
 unfoldable pub builtOf : Setup → Request → List ℕ → List ℕ → BuildOutcome
 builtOf s r net out = outcomeOf (admitted s (expressible s r net) (length out)) (telegramFor s r net) out
