@@ -20,7 +20,10 @@ refuse-requires c κs = search needs
 
 returns : tie.Need-returns
 unfolding readOf
-returns c = c .refuse .ensures ∙ sym (rw (sym (c .before .before .setup-ok .ensures) ∙ not-true _ (c .before .if1 .taken)))
+returns c =
+    let then1 : tie.Then1 = search in
+    let after-setup-ok : tie.After-setup-ok = search in
+    c .refuse .ensures ∙ sym (rw (sym (after-setup-ok .setup-ok .ensures) ∙ not-true _ (then1 .if1 .taken)))
 
 enum-known-request : tie.Need-enum-known-request
 enum-known-request c = search needs
@@ -34,9 +37,12 @@ read-task-requires c κs = search needs
 returns-2 : tie.Need-returns-2
 unfolding readOf
 returns-2 c =
-    let k = c .before .before in
-    let e = k .before .before .before .before in
-    c .read-task .ensures ∙ sym (rw (sym (e .before .setup-ok .ensures) ∙ not-false _ (e .if1 .left), k .before .before .request .given .1, sym (k .can-ask .ensures) ∙ c .before .if2 .taken))
+    let then2 : tie.Then2 = search in
+    let k : tie.After-can-ask = search in
+    let after-request : tie.After-request = search in
+    let e : tie.Else1 = search in
+    let after-setup-ok : tie.After-setup-ok = search in
+    c .read-task .ensures ∙ sym (rw (sym (after-setup-ok .setup-ok .ensures) ∙ not-false _ (e .if1 .left), after-request .request .given .1, sym (k .can-ask .ensures) ∙ then2 .if2 .taken))
 
 refuse-requires-2 : tie.Need-refuse-requires-2
 refuse-requires-2 c κs = search needs
@@ -56,21 +62,28 @@ refuse-requires-4 c κs = search needs
 returns-3 : tie.Need-returns-3
 unfolding readOf
 returns-3 c =
-    let k = c .before .before in
-    let e = k .before .before .before .before in
-    c .refuse2 .ensures ∙ sym (rw (sym (e .before .setup-ok .ensures) ∙ not-false _ (e .if1 .left), k .before .before .request .given .1, sym (k .can-ask .ensures) ∙ c .before .if2 .left))
+    let else2 : tie.Else2 = search in
+    let k : tie.After-can-ask = search in
+    let after-request : tie.After-request = search in
+    let e : tie.Else1 = search in
+    let after-setup-ok : tie.After-setup-ok = search in
+    c .refuse2 .ensures ∙ sym (rw (sym (after-setup-ok .setup-ok .ensures) ∙ not-false _ (e .if1 .left), after-request .request .given .1, sym (k .can-ask .ensures) ∙ else2 .if2 .left))
 
 returns-4 : tie.Need-returns-4
 unfolding readOf
 returns-4 c =
-    let e = c .before .before .before in
-    c .refuse3 .ensures ∙ sym (rw (sym (e .before .setup-ok .ensures) ∙ not-false _ (e .if1 .left), c .before .enum-told .given .1))
+    let after-enum-told : tie.After-enum-told = search in
+    let e : tie.Else1 = search in
+    let after-setup-ok : tie.After-setup-ok = search in
+    c .refuse3 .ensures ∙ sym (rw (sym (after-setup-ok .setup-ok .ensures) ∙ not-false _ (e .if1 .left), after-enum-told .enum-told .given .1))
 
 returns-5 : tie.Need-returns-5
 unfolding readOf
 returns-5 c =
-    let e = c .before .before .before in
-    c .refuse4 .ensures ∙ sym (rw (sym (e .before .setup-ok .ensures) ∙ not-false _ (e .if1 .left), c .before .enum-told2 .given .1))
+    let after-enum-told2 : tie.After-enum-told2 = search in
+    let e : tie.Else1 = search in
+    let after-setup-ok : tie.After-setup-ok = search in
+    c .refuse4 .ensures ∙ sym (rw (sym (after-setup-ok .setup-ok .ensures) ∙ not-false _ (e .if1 .left), after-enum-told2 .enum-told2 .given .1))
 
 pub read-spec : {M : Type 1} → statement M
 read-spec =

@@ -38,9 +38,11 @@ enum-known-node c = search needs
 
 sub-n : tie.Need-sub-n
 sub-n c =
-    let d = c .before .before .before in
-    let a = d .before .before .args in
-    let e = sym (d .decode .ensures) ∙ c .before .node .given .1 in
+    let after-node : tie.After-node = search in
+    let d : tie.After-decode = search in
+    let start : tie.Start = search in
+    let a = start .args in
+    let e = sym (d .decode .ensures) ∙ after-node .node .given .1 in
     let b = normal-bounds (a .received .now) _ _ _ e in
     omega (arith, b .0, b .1, telegram-framed (a .received .now) _ e refl .counted .long)
 
@@ -50,33 +52,41 @@ read-normal-requires c κs = search needs
 returns : tie.Need-returns
 unfolding readTask
 returns c =
-    let d = c .before .before .before .before in
-    let a = d .before .before .args in
-    let e = sym (d .decode .ensures) ∙ c .before .before .fault .given .1 in
+    let after-fault : tie.After-fault = search in
+    let d : tie.After-decode = search in
+    let start : tie.Start = search in
+    let a = start .args in
+    let e = sym (d .decode .ensures) ∙ after-fault .fault .given .1 in
     c .refuse .ensures ∙ sym (rw e)
 
 returns-2 : tie.Need-returns-2
 unfolding readTask
 returns-2 c =
-    let d = c .before .before .before in
-    let a = d .before .before .args in
-    let e = sym (d .decode .ensures) ∙ c .before .enum-told .given .1 in
+    let after-enum-told : tie.After-enum-told = search in
+    let d : tie.After-decode = search in
+    let start : tie.Start = search in
+    let a = start .args in
+    let e = sym (d .decode .ensures) ∙ after-enum-told .enum-told .given .1 in
     c .refuse2 .ensures ∙ sym (rw e)
 
 returns-3 : tie.Need-returns-3
 unfolding readTask
 returns-3 c =
-    let d = c .before .before .before in
-    let a = d .before .before .args in
-    let e = sym (d .decode .ensures) ∙ c .before .enum-told2 .given .1 in
+    let after-enum-told2 : tie.After-enum-told2 = search in
+    let d : tie.After-decode = search in
+    let start : tie.Start = search in
+    let a = start .args in
+    let e = sym (d .decode .ensures) ∙ after-enum-told2 .enum-told2 .given .1 in
     c .refuse3 .ensures ∙ sym (rw e)
 
 returns-4 : tie.Need-returns-4
 unfolding readTask
 returns-4 c =
-    let d = c .before .before .before .before in
-    let a = d .before .before .args in
-    let e = sym (d .decode .ensures) ∙ c .before .before .node .given .1 in
+    let after-node : tie.After-node = search in
+    let d : tie.After-decode = search in
+    let start : tie.Start = search in
+    let a = start .args in
+    let e = sym (d .decode .ensures) ∙ after-node .node .given .1 in
     c .read-normal .ensures ∙ sym (rw e)
 
 pub read-task-spec : {M : Type 1} → statement M

@@ -1,11 +1,11 @@
--- `reply::read_content` meets its contract. Assumes nothing.
+-- `content::read_content` meets its contract. Assumes nothing.
 use Rattle.rows.proofs.RowsLaws.{tests}
-use Rattle.reply.specs.Reply.{replyContent}
+use Rattle.content.specs.Content.{replyContent}
 use borrow.Author.Needs.{needs}
-use Rattle.reply.proofs.read_content.Statement.{statement}
-use Rattle.reply.proofs.read_content.Tie as tie
-use Rattle.reply.proofs.read_content.Reads as reads
-use Rattle.reply.proofs.read_content.Lts as lts
+use Rattle.content.proofs.read_content.Statement.{statement}
+use Rattle.content.proofs.read_content.Tie as tie
+use Rattle.content.proofs.read_content.Reads as reads
+use Rattle.content.proofs.read_content.Lts as lts
 
 cast-reply-id : tie.Need-cast-reply-id
 cast-reply-id c = search needs

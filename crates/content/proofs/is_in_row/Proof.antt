@@ -1,10 +1,11 @@
--- `reply::is_in_row` meets its contract. Assumes nothing.
+-- `content::is_in_row` meets its contract. Assumes nothing.
+use native.Mathlib.Nat.{add-zero}
 use borrow.Author.Needs.{needs}
-use Rattle.reply.proofs.is_in_row.Statement.{statement}
-use Rattle.reply.proofs.is_in_row.Tie as tie
-use Rattle.reply.proofs.is_in_row.Reads as reads
-use Rattle.reply.proofs.is_in_row.Lts as lts
-use Rattle.reply.proofs.is_one_of.Reads as is-one-of-reads
+use Rattle.content.proofs.is_in_row.Statement.{statement}
+use Rattle.content.proofs.is_in_row.Tie as tie
+use Rattle.content.proofs.is_in_row.Reads as reads
+use Rattle.content.proofs.is_in_row.Lts as lts
+use Rattle.content.proofs.is_one_of.Reads as is-one-of-reads
 
 enum-told : tie.Need-enum-told
 enum-told c = search needs
@@ -28,10 +29,12 @@ enum-told-5 : tie.Need-enum-told-5
 enum-told-5 c = search needs
 
 returns : tie.Need-returns
-returns c = search needs
+returns c = rw (c .enum-told .given .1)
 
 returns-2 : tie.Need-returns-2
-returns-2 c = rw (c .before .enum-told2 .given .1) (c .is-one-of .ensures)
+returns-2 c =
+    let m : tie.After-enum-told2 = search in
+    rw (m .enum-told2 .given .1, add-zero) (c .is-one-of .ensures)
 
 returns-3 : tie.Need-returns-3
 returns-3 c = rw (c .enum-told3 .given .1)
@@ -40,7 +43,7 @@ returns-4 : tie.Need-returns-4
 returns-4 c = rw (c .enum-told4 .given .1)
 
 returns-5 : tie.Need-returns-5
-returns-5 c = search needs
+returns-5 c = rw (c .enum-told5 .given .1)
 
 pub is-in-row-spec : {M : Type 1} → statement M
 is-in-row-spec =
