@@ -21,9 +21,10 @@ fn give_built(built: Built) -> HostBuilt
     ensures { λ r. ⌜ r ≡ hostBuilt built ⌝ }
 {
     let answer = built.answer;
+    let length = built.length as u32;
     HostBuilt {
         number: answers::number_built(answer),
-        length: built.length as u32,
+        length,
     }
 }
 

@@ -1,17 +1,19 @@
 -- How long a listing is: exactly, and at most 64 bytes. Assumes nothing.
-use mathlib.Core.Path.{_≡_}
+use mathlib.Core.Path.{_≡_, refl}
+use mathlib.Core.Bool.{Bool, true, false}
 use mathlib.Core.List.{List, _++_}
 use Prim.Native.Nat.{ℕ, _+_, _%_, _≤_, _<_}
 use native.Mathlib.Omega.{arith}
-use lib.Dec.{lit<, lit≤}
+use borrow.Author.Tests.{leb-true, leb-false}
+use lib.Dec.{lit<, lit≤, leb}
 use lib.ListN.{length, take, drop, length-append, length-take}
 use Rattle.rows.proofs.RowsLaws.{first-all}
 use Rattle.words.specs.Words.{byteAt, Bytes}
 use Rattle.words.proofs.WordsLaws.{bytes-take}
 use Rattle.text.specs.Digits.{ascii, digits}
-use Rattle.store.specs.Placed.{joined}
+use Rattle.store.specs.Placed.{putOut, joined}
 use Rattle.text.proofs.DigitsLaws.{length-digits}
-use Rattle.store.proofs.StoreLaws.{put-front, put-length, put-within}
+use Rattle.store.proofs.StoreLaws.{put-fits, put-not, put-front, put-length, put-within}
 use Rattle.frame.specs.Frame.{frameOf, lastOf}
 use Rattle.frame.specs.Address.{addressRows, addressOf, kindOf, decodedFrom, faultNumber}
 use Rattle.frame.specs.declared.FrameCheck.{FrameCheck}
@@ -43,7 +45,7 @@ nodeOf ToNone = 0
 node-below : (adr : ℕ) → nodeOf (addressOf adr) < 32
 unfolding addressOf
 node-below adr =
-    first-all (λ (a : Address). nodeOf a < 32) (addressRows adr) (ToOne (adr % 32)) (lit< tt, (lit< tt, (lit< tt, (omega arith, tt)))) (omega arith)
+    first-all (λ (a : Address). nodeOf a < 32) (addressRows adr) (ToOne (adr % 32)) (lit< tt, (lit< tt, (omega arith, tt))) (omega arith)
 
 good-most : (t : List ℕ) → Bytes t → length t ≤ 300 → (node : ℕ) → node < 32 → (kind : List ℕ) → length kind ≤ 9 → length (joined (goodText t node kind)) ≤ 64
 good-most t b n node h kind k =
@@ -81,6 +83,14 @@ listing-most t b n = go (frameOf t)
     go (Broken fault) = refused-most t n (InFrame fault)
 
 -- ---- what a call returns
+
+-- the text or nothing is written, so the length is at most that of the text
+pub placed-most : (t out : List ℕ) → Bytes t → length t ≤ 300 → putOut out 0 (listing t) .place ≤ 64
+placed-most t out b n = go (leb (0 + length (listing t)) (length out)) refl
+  where
+    go : (fits : Bool) → leb (0 + length (listing t)) (length out) ≡ fits → putOut out 0 (listing t) .place ≤ 64
+    go true e = rw (put-fits out 0 (listing t) (leb-true _ _ e)) (omega (arith, listing-most t b n))
+    go false e = rw (put-not out 0 (listing t) (leb-false _ _ e)) (lit≤ tt)
 
 -- the length is within the buffer
 pub listed-within : (received out : List ℕ) → listedOf received out .place ≤ length out

@@ -98,12 +98,12 @@ fn list_decoded(t: &[u8], out: &mut [u8]) -> usize
 
 // Writes the listing of the first 300 bytes to the start of `out` and returns its length; where it does not fit,
 // writes nothing and returns 0.
-pub fn list(received: &[u8], out: &mut [u8]) -> usize
+pub fn list(received: &[u8], out: &mut [u8]) -> u32
     ensures { λ r. ⌜ r ≡ listedOf (now (received .entry)) (now (out .entry)) .place ⌝ }
     ensures { λ _. ⌜ now (out .exit) ≡ listedOf (now (received .entry)) (now (out .entry)) .bytes ⌝ }
 {
     if 300 < received.len() {
-        return list_decoded(&received[..300], out);
+        return list_decoded(&received[..300], out) as u32;
     }
-    list_decoded(received, out)
+    list_decoded(received, out) as u32
 }

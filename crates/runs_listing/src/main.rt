@@ -1,7 +1,7 @@
 // Listings of known telegrams (document 01, Listing program, and the telegrams to run), whose output is compared.
 fn run(received: &[u8]) {
     let mut out = [0u8; 64];
-    let m = listing::list(received, &mut out);
+    let m = listing::list(received, &mut out) as usize;
     io::write_all(1, &out[..m]);
 }
 
@@ -126,7 +126,7 @@ fn list_long() {
 }
 
 // What a call returned, and the whole buffer after it.
-fn show(length: usize, out: &[u8]) {
+fn show(length: u32, out: &[u8]) {
     io::print_decimal(1, length as u64);
     io::write_all(1, b"\n");
     io::write_all(1, out);

@@ -6,11 +6,11 @@ use Rattle.host_master.proofs.give_built.Reads as reads
 use Rattle.host_master.proofs.give_built.Lts as lts
 use Rattle.answers.proofs.number_built.Reads as number-built-reads
 
+cast-length : tie.Need-cast-length
+cast-length c = search needs
+
 number-built-requires : tie.Need-number-built-requires
 number-built-requires c κs = search needs
-
-cast-t4 : tie.Need-cast-t4
-cast-t4 c = search needs
 
 returns : tie.Need-returns
 returns c =
@@ -18,4 +18,4 @@ returns c =
     rw (n .number-built .ensures)
 
 pub give-built-spec : {M : Type 1} → statement M
-give-built-spec = tie.close (tie.spec number-built-requires cast-t4 returns)
+give-built-spec = tie.close (tie.spec cast-length number-built-requires returns)

@@ -29,13 +29,18 @@ slice-aggregate-list-2 c = search needs
 list-requires : tie.Need-list-requires
 list-requires c κs = search needs
 
+cast-m : tie.Need-cast-m
+cast-m c = search needs
+
 array-share-prefix-out : tie.Need-array-share-prefix-out
-array-share-prefix-out c = listed-lent _ _ (c .before .list .ensures .0) (c .before .list .ensures .1)
+array-share-prefix-out c =
+    let l : tie.After-list = search in
+    listed-lent _ _ (l .list .ensures .0) (l .list .ensures .1)
 
 slice-aggregate-write-all : tie.Need-slice-aggregate-write-all
 slice-aggregate-write-all c =
-    let l = c .before .before .list in
-    sym (length-take-le _ _ (listed-lent _ _ (l .ensures .0) (l .ensures .1)))
+    let l : tie.After-list = search in
+    sym (length-take-le _ _ (listed-lent _ _ (l .list .ensures .0) (l .list .ensures .1)))
 
 write-all-requires : tie.Need-write-all-requires
 write-all-requires c κs = search needs
@@ -53,6 +58,7 @@ main-spec =
     slice-aggregate-list
     slice-aggregate-list-2
     list-requires
+    cast-m
     array-share-prefix-out
     slice-aggregate-write-all
     write-all-requires

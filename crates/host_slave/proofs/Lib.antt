@@ -1,0 +1,2 @@
+-- Laws behind the slave call for a host.
+pub mod LengthLaws

@@ -1,3 +1,0 @@
--- Laws behind the calls for C.
-pub mod LengthLaws
-pub mod HostLaws

@@ -1,2 +1,0 @@
--- What the calls for C return and leave.
-pub mod Host
