@@ -1,4 +1,4 @@
--- K1 to K12 hold of the definitions, all at once. Assumes nothing.
+-- K1 to K12 hold of the definitions, all at once; beside them 000's XOR and the other half of K8. Assumes nothing.
 use mathlib.Core.Path.{_≡_, refl}
 use mathlib.Core.List.{map}
 use Rattle.bcc.specs.Bcc.{xorAll}
@@ -10,18 +10,28 @@ use Rattle.entry.specs.Limits.{signedOf, numberOf, atMost, fitsIn, isWithin, en
 use Rattle.table.specs.Records.{entryAt, entriesFrom, entries, findFrom, countsOf}
 use Rattle.opening.specs.Rules.{risingFrom, eachOk, runOk, runsOk}
 use Rattle.opening.specs.Answers.{openingOf}
-use Rattle.net.specs.Net.{areaWords, netOf}
+use Rattle.area.specs.Net.{netOf}
 use Rattle.area.specs.Read.{valueAt, areaAt, processAt}
 use Rattle.task.specs.Task.{tasks, taskOf}
 use Rattle.page.specs.Page.{pageOf, nibbleOf}
 use Rattle.task.specs.Verdict.{verdictOf, elementOf}
+use Rattle.deed.specs.Deed.{deedOn}
 use Rattle.broadcast.specs.Broadcast.{isVoid, mergeOf, controlAfter}
-use Rattle.slave.specs.Perform.{performOn, foundOf, performOf}
-use Rattle.slave.specs.Slave.{taskDone, controlTaken, replyOf, normalCase, commandAt, broadcastCase, executeOf, callOf}
-use Rattle.request.specs.Request.{unusedZero, valueFits, taskFits, expressible}
+use Rattle.control.specs.Control.{controlTaken, commandAt}
+use Rattle.slave.specs.Perform.{foundOf, planIn, planAt}
+use Rattle.slave.specs.Slave.{replyOf, normalCase, broadcastCase, executeOf, callOf}
+use Rattle.request.specs.Request.{unusedZero, taskKnown, valueFits, taskFits, expressible}
 use Rattle.master.specs.Build.{taskArea, telegramFor, admitted, builtOf}
-use Rattle.claims_known.specs.Known.{Case, known}
+use Rattle.claims_known.specs.Known.{Case, known, printed, k8-paged}
 
 pub known-holds : map (λ (k : Case). k .0) known ≡ map (λ (k : Case). k .1) known
-unfolding xorAll frameOf addressOf setupOk entryOf countOf signedOf numberOf atMost fitsIn isWithin entryOk entryAt entriesFrom entries findFrom countsOf risingFrom eachOk runOk runsOk openingOf areaWords netOf valueAt areaAt processAt tasks taskOf pageOf nibbleOf verdictOf elementOf isVoid mergeOf controlAfter performOn foundOf performOf taskDone controlTaken replyOf normalCase commandAt broadcastCase executeOf callOf taskArea telegramFor unusedZero valueFits taskFits expressible admitted builtOf
+unfolding xorAll frameOf addressOf setupOk entryOf countOf signedOf numberOf atMost fitsIn isWithin entryOk entryAt entriesFrom entries findFrom countsOf risingFrom eachOk runOk runsOk openingOf netOf valueAt areaAt processAt tasks taskOf pageOf nibbleOf verdictOf elementOf deedOn isVoid mergeOf controlAfter controlTaken commandAt foundOf planIn planAt replyOf normalCase broadcastCase executeOf callOf taskArea telegramFor unusedZero taskKnown valueFits taskFits expressible admitted builtOf
 known-holds = refl
+
+pub printed-holds : printed .0 ≡ printed .1
+unfolding xorAll
+printed-holds = refl
+
+pub paged-holds : k8-paged .0 ≡ k8-paged .1
+unfolding entryOf countOf entryAt entriesFrom entries findFrom countsOf tasks taskOf pageOf verdictOf elementOf deedOn foundOf planIn
+paged-holds = refl

@@ -1,12 +1,13 @@
 -- The known telegrams of document 01 ("Telegrams to prove and to run"), each as what the definitions give beside what the
 -- document says. Slave and master have four parameter words in all of them.
 --     known        the list, K1 to K12 in order; k1-first to k12 are its cases, each under its K number
+--     printed, k8-paged     beside the list: 000's example of an XOR, and the other half of K8
 use Prim.Native.Nat.{ℕ, _/_, _%_}
 use mathlib.Core.List.{List, [], _∷_}
 use lib.ListN.{replicate, take}
 use Rattle.bcc.specs.Bcc.{xorAll}
 use Rattle.area.specs.declared.Area.{Area}
-use Rattle.net.specs.Net.{wordsOf}
+use Rattle.area.specs.Net.{wordsOf}
 use Rattle.net.specs.Telegram.{telegramOf}
 use Rattle.slave.specs.Perform.{performOf}
 use Rattle.slave.specs.Slave.{Outcome, sentBy, callOf}
@@ -31,6 +32,10 @@ k1-first = (xorAll (0x02 ∷ 0x07 ∷ 0x00 ∷ 0x04 ∷ 0x00 ∷ 0x21 ∷ 0x00 �
 abbrev pub k1-second : Case
 k1-second = (xorAll (0x02 ∷ 0x05 ∷ 0x00 ∷ 0x00 ∷ 0x0C ∷ 0x06 ∷ []) ∷ [], 0x0D ∷ [])
 
+-- 000's printed example, 02 XOR D6 = D4
+abbrev pub printed : Case
+printed = (xorAll (0x02 ∷ 0xD6 ∷ []) ∷ [], 0xD4 ∷ [])
+
 -- ---- K2: the master's telegram for task 1, number 1082
 
 -- the answer's number, the length, and the telegram
@@ -45,7 +50,8 @@ k2 = (built request1082, 0 ∷ 16 ∷ task1082 0x0E 0x7A)
 -- ---- K3, K4, K5, K6: the slave's answers to it
 
 abbrev pub call : List ℕ → List ℕ → List ℕ → Outcome
-call table values received = callOf setup table values (twoWords 0 0) status received buffer
+call table values received =
+    callOf (record { setup = setup; table = table; memory = record { values = values }; control = twoWords 0 0; status = status; received = received; buffer = buffer })
 
 -- the answer's number, the reply's length, and the reply
 abbrev pub shown : Outcome → List ℕ
@@ -78,8 +84,8 @@ k7 = (
 
 abbrev pub perform : List ℕ → List ℕ → Area → List ℕ
 perform table values a =
-    let p = performOf 4 table values a in
-    p .area .pke / 4096 ∷ p .area .value ∷ p .values
+    let p = performOf 4 table (record { values = values }) a in
+    p .area .pke / 4096 ∷ p .area .value ∷ p .memory .values
 
 -- PKE, IND and the value of a task
 abbrev pub area : ℕ → ℕ → ℕ → Area
@@ -92,7 +98,7 @@ table2000 = 0x0F ∷ 0xA0 ∷ 0x00 ∷ 0x00 ∷ 0x00 ∷ 0x00 ∷ 0x00 ∷ 0x00 
 abbrev pub k8 : Case
 k8 = (perform table2000 (7 ∷ []) (area 0x17D0 0x0000 0), 7 ∷ 0 ∷ 7 ∷ [])
 
--- the same parameter by its page and base 0 is there
+-- the same parameter by its page and base 0 is there (not in the document's list)
 abbrev pub k8-paged : Case
 k8-paged = (perform table2000 (7 ∷ []) (area 0x1000 0x8000 0), 1 ∷ 7 ∷ 7 ∷ [])
 
@@ -108,7 +114,7 @@ broadcast selector mask first second =
 -- the answer's number, the reply's length, and the four control words, from 047E 1111
 abbrev pub commanded : List ℕ → List ℕ
 commanded received =
-    let o = callOf setup [] [] (twoWords 0x047E 0x1111) status received buffer in
+    let o = callOf (record { setup = setup; table = []; memory = record { values = [] }; control = twoWords 0x047E 0x1111; status = status; received = received; buffer = buffer }) in
     answerNumber (o .served .answer) ∷ o .served .length ∷ wordsOf (o .served .control)
 
 abbrev pub k9 : Case
@@ -152,5 +158,5 @@ k12-pair-over = (perform pairTable (11 ∷ 12 ∷ []) (area 0x6001 0x0002 0), 7 
 
 abbrev pub known : List Case
 known =
-    k1-first ∷ k1-second ∷ k2 ∷ k3 ∷ k4 ∷ k5 ∷ k6 ∷ k7 ∷ k8 ∷ k8-paged ∷ k9 ∷ k10 ∷ k11-taken ∷ k11-outside
+    k1-first ∷ k1-second ∷ k2 ∷ k3 ∷ k4 ∷ k5 ∷ k6 ∷ k7 ∷ k8 ∷ k9 ∷ k10 ∷ k11-taken ∷ k11-outside
     ∷ k12-plain-runs ∷ k12-plain-over ∷ k12-pair-runs ∷ k12-pair-over ∷ []

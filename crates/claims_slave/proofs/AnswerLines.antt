@@ -2,6 +2,7 @@
 use Prim.Native.Nat.{ℕ}
 use mathlib.Core.Path.{_≡_, refl}
 use mathlib.Core.List.{List, [], _∷_, map}
+use lib.ListN.{replicate}
 use Rattle.rows.specs.Rows.{firstOf}
 use Rattle.setup.specs.declared.Setup.{Setup}
 use Rattle.setup.specs.SetupRules.{setupOk}
@@ -9,11 +10,17 @@ use Rattle.table.specs.Records.{entriesFrom, entries, countsOf}
 use Rattle.bcc.specs.Bcc.{xorAll}
 use Rattle.opening.specs.Rules.{risingFrom, eachOk, runsOk}
 use Rattle.broadcast.specs.Broadcast.{isVoid}
+use Rattle.slave.specs.Slave.{Call}
+use Rattle.claims_known.specs.Telegrams.{twoWords}
 use Rattle.claims_slave.specs.AnswerTable.{answerRows, acceptedNumber}
 
 -- node 3, no parameter area, one process word
 abbrev pub small : Setup
 small = record { node = 3; pkw = 0; pzd = 1 }
+
+-- no parameter, a buffer of 256 bytes, these bytes received
+abbrev pub smallCall : List ℕ → Call
+smallCall rx = record { setup = small; table = []; memory = record { values = [] }; control = twoWords 0 0; status = twoWords 0 0; received = rx; buffer = replicate 256 0 }
 
 abbrev pub lines : List (List ℕ × ℕ)
 lines =
@@ -38,7 +45,7 @@ lines =
     ∷ (0x02 ∷ 0x03 ∷ 0x43 ∷ 0x15 ∷ 0x57 ∷ [], 1)
     ∷ []
 
-pub lines-known : map (λ (x : List ℕ × ℕ). firstOf (answerRows small [] [] 256 (x .0)) (acceptedNumber (x .0))) lines
+pub lines-known : map (λ (x : List ℕ × ℕ). firstOf (answerRows (smallCall (x .0))) (acceptedNumber (x .0))) lines
     ≡ map (λ (x : List ℕ × ℕ). x .1) lines
 unfolding setupOk entriesFrom entries countsOf risingFrom eachOk runsOk xorAll isVoid
 lines-known = refl

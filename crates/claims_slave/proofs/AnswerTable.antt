@@ -9,14 +9,11 @@ use mathlib.Core.Logic.{inl, inr}
 use mathlib.Core.Bool.{Bool, true, false, not, _&&_, _||_}
 use mathlib.Core.List.{List, [], _∷_}
 use native.Mathlib.Omega.{arith}
-use lib.Dec.{eqb, lit<}
-use lib.ListN.{length}
+use lib.Dec.{lit<}
 use Rattle.rows.specs.Rows.{firstOf, readRows, Chosen}
 use Rattle.rows.proofs.RowsLaws.{first-all, first-chosen, chosen-first, first-read}
-use Rattle.words.specs.declared.Words.{Words}
-use Rattle.setup.specs.declared.Setup.{Setup}
-use Rattle.setup.specs.SetupRules.{netBytes}
-use Rattle.frame.specs.Frame.{lastOf, frameRows, frameOf}
+use Rattle.setup.specs.SetupRules.{otherNode, otherLength}
+use Rattle.frame.specs.Frame.{lastOf, frameRows, frameNumbers, frameOf}
 use Rattle.frame.specs.Address.{broadcastBit, mirrorBit, topBit, addressRows, addressOf, kindOf, decodedFrom, adrOf}
 use Rattle.frame.specs.declared.Address.{Address}
 use Rattle.frame.specs.declared.Address.the-variants.{ToOne}
@@ -28,26 +25,25 @@ use Rattle.frame.proofs.DecodedLaws.{framed-decoded}
 use Rattle.opening.specs.Answers.{openingRows, openingOf}
 use Rattle.opening.specs.declared.Opening.{Opening}
 use Rattle.opening.specs.declared.Opening.the-variants.{Passed}
-use Rattle.net.specs.Telegram.{written}
 use Rattle.answers.specs.declared.Refusal.the-variants.{OtherNode, OtherLength, VoidBroadcast}
-use Rattle.slave.specs.declared.Served.{Served}
-use Rattle.slave.specs.Slave.{Outcome, MirrorSent, refusedServed, refusedOf, normalOutcome, normalCase, mirrorServed, mirrorCase, voidIn, takenServed, broadcastCase, executeDecoded, executeOf, callOpened, callOf}
+use Rattle.answers.specs.SlaveNumbers.{answerNumber}
+use Rattle.control.specs.Control.{voidIn}
+use Rattle.slave.specs.Slave.{Call, Outcome, lentBy, openingAt, netIn, refusedOf, normalOutcome, normalCase, mirrorOutcome, mirrorCase, takenOutcome, broadcastCase, executeDecoded, executeOf, callOpened, callOf}
 use Rattle.slave.proofs.CaseLaws.{executed, called}
 use Rattle.claims_slave.specs.Outcomes.{NotFrame, PastFrame}
-use Rattle.claims_slave.specs.AnswerTable.{answerRows, acceptedNumber}
-use Rattle.answers.specs.SlaveNumbers.{answerNumber}
+use Rattle.claims_slave.specs.AnswerTable.{openedNumber, answerRows, acceptedNumber}
 
 -- ---- the kinds
 
--- 15 to 18 as the call tests them by kind, and as the table has them: top bit, broadcast, mirror, own node, own length, void
+-- 15 to 18 as the call tests them by kind, and as the table has them: top bit, broadcast, mirror, other node, other length, void
 abbrev byKind : Bool → Bool → Bool → Bool → Bool → Bool → ℕ
 byKind h b m node long void =
-    firstOf ((h, 15) ∷ (b && m, 15) ∷ (b, firstOf ((not long, 17) ∷ (void, 18) ∷ []) 2) ∷ (m, firstOf ((not node, 16) ∷ []) 1) ∷ [])
-    (firstOf ((not node, 16) ∷ (not long, 17) ∷ []) 0)
+    firstOf ((h || b && m, 15) ∷ (b, firstOf ((long, 17) ∷ (void, 18) ∷ []) 2) ∷ (m, firstOf ((node, 16) ∷ []) 1) ∷ [])
+    (firstOf ((node, 16) ∷ (long, 17) ∷ []) 0)
 
 abbrev lineRows : Bool → Bool → Bool → Bool → Bool → Bool → List (Bool × ℕ)
 lineRows h b m node long void =
-    (h || b && m, 15) ∷ (not b && not node, 16) ∷ (not m && not long, 17) ∷ (b && void, 18) ∷ (b, 2) ∷ (m, 1) ∷ []
+    (h || b && m, 15) ∷ (not b && node, 16) ∷ (not m && long, 17) ∷ (b && void, 18) ∷ (b, 2) ∷ (m, 1) ∷ []
 
 abbrev byLine : Bool → Bool → Bool → Bool → Bool → Bool → ℕ
 byLine h b m node long void = firstOf (lineRows h b m node long void) 0
@@ -55,114 +51,96 @@ byLine h b m node long void = firstOf (lineRows h b m node long void) 0
 kinds : (h b m node long void : Bool) → byKind h b m node long void ≡ byLine h b m node long void
 kinds true b m node long void = refl
 kinds false true true node long void = refl
-kinds false true false node true true = refl
-kinds false true false node true false = refl
-kinds false true false node false void = refl
+kinds false true false node true void = refl
+kinds false true false node false true = refl
+kinds false true false node false false = refl
 kinds false false true true long void = refl
 kinds false false true false long void = refl
-kinds false false false true true void = refl
-kinds false false false true false void = refl
-kinds false false false false long void = refl
+kinds false false false true long void = refl
+kinds false false false false true void = refl
+kinds false false false false false void = refl
 
 abbrev numberIn : Outcome → ℕ
 numberIn o = answerNumber (o .served .answer)
 
-module _ (s : Setup) (rx : List ℕ) where
-  abbrev ownNode : Bool
-  ownNode = eqb (adrOf rx % 32) (s .node)
+module _ (k : Call) where
+  abbrev adr : ℕ
+  adr = adrOf (k .received)
 
-  abbrev ownLength : Bool
-  ownLength = eqb (length rx - 4) (netBytes s)
+  abbrev nodeOther : Bool
+  nodeOther = otherNode (k .setup) (adr % 32)
+
+  abbrev lengthOther : Bool
+  lengthOther = otherLength (k .setup) (netIn (k .received))
+
+  abbrev isVoidIn : Bool
+  isVoidIn = voidIn (k .setup) (netIn (k .received)) (k .received)
 
   abbrev tableNumber : ℕ
-  tableNumber = byLine (topBit (adrOf rx)) (broadcastBit (adrOf rx)) (mirrorBit (adrOf rx)) ownNode ownLength (voidIn s rx)
+  tableNumber = byLine (topBit adr) (broadcastBit adr) (mirrorBit adr) nodeOther lengthOther isVoidIn
 
   -- past the frame check
   table-beyond : NotFrame tableNumber
   table-beyond =
-      first-all NotFrame (lineRows (topBit (adrOf rx)) (broadcastBit (adrOf rx)) (mirrorBit (adrOf rx)) ownNode ownLength (voidIn s rx)) 0
+      first-all NotFrame (lineRows (topBit adr) (broadcastBit adr) (mirrorBit adr) nodeOther lengthOther isVoidIn) 0
       (inr (lit< tt), (inr (lit< tt), (inr (lit< tt), (inr (lit< tt), (inl (lit< tt), (inl (lit< tt), tt))))))
       (inl (lit< tt))
 
-module _ (s : Setup) (t vs : List ℕ) (control status : Words) (rx out : List ℕ) where
-  normal-number : (node n : ℕ) → numberIn (normalCase node n s t vs control status rx out)
-      ≡ firstOf ((not (eqb node (s .node)), 16) ∷ (not (eqb n (netBytes s)), 17) ∷ []) 0
+  normal-number : (node n : ℕ) → numberIn (normalCase node n k) ≡ firstOf ((otherNode (k .setup) node, 16) ∷ (otherLength (k .setup) n, 17) ∷ []) 0
   unfolding normalCase
   normal-number node n =
-      first-read numberIn
-      ((not (eqb node (s .node)), refusedOf OtherNode control vs out)
-      ∷ (not (eqb n (netBytes s)), refusedOf OtherLength control vs out)
-      ∷ [])
-      (normalOutcome s t vs control status rx out)
+      first-read numberIn ((otherNode (k .setup) node, refusedOf OtherNode k) ∷ (otherLength (k .setup) n, refusedOf OtherLength k) ∷ []) (normalOutcome n k)
 
-  mirror-number : (node : ℕ) → answerNumber (mirrorCase node s control rx out .served .answer)
-      ≡ firstOf ((not (eqb node (s .node)), 16) ∷ []) 1
+  mirror-number : (node : ℕ) → numberIn (mirrorCase node k) ≡ firstOf ((otherNode (k .setup) node, 16) ∷ []) 1
   unfolding mirrorCase
-  mirror-number node =
-      first-read (λ (x : MirrorSent). answerNumber (x .served .answer))
-      ((not (eqb node (s .node)), record { served = refusedServed OtherNode control; reply = out }) ∷ [])
-      (record { served = mirrorServed control rx; reply = written out rx })
+  mirror-number node = first-read numberIn ((otherNode (k .setup) node, refusedOf OtherNode k) ∷ []) (mirrorOutcome k)
 
-  broadcast-number : answerNumber (broadcastCase (length rx - 4) s control rx .answer)
-      ≡ firstOf ((not (ownLength s rx), 17) ∷ (voidIn s rx, 18) ∷ []) 2
+  broadcast-number : numberIn (broadcastCase (netIn (k .received)) k) ≡ firstOf ((lengthOther, 17) ∷ (isVoidIn, 18) ∷ []) 2
   unfolding broadcastCase
   broadcast-number =
-      first-read (λ (x : Served). answerNumber (x .answer))
-      ((not (ownLength s rx), refusedServed OtherLength control) ∷ (voidIn s rx, refusedServed VoidBroadcast control) ∷ [])
-      (takenServed s control rx)
+      first-read numberIn ((lengthOther, refusedOf OtherLength k) ∷ (isVoidIn, refusedOf VoidBroadcast k) ∷ []) (takenOutcome (netIn (k .received)) k)
 
   -- ---- the address byte
 
   abbrev ofDecoded : Decoded → ℕ
-  ofDecoded d = numberIn (executeDecoded d s t vs control status rx out)
+  ofDecoded d = numberIn (executeDecoded d k)
 
-  sound-number : ofDecoded (kindOf (addressOf (adrOf rx)) (lastOf rx)) ≡ tableNumber s rx
+  sound-number : ofDecoded (kindOf (addressOf adr) (lastOf (k .received))) ≡ tableNumber
   unfolding addressOf
   sound-number =
-      let net : lastOf rx - 3 ≡ length rx - 4 = omega arith in
-      let normal = normal-number (adrOf rx % 32) (lastOf rx - 3) in
-      first-read (λ (a : Address). ofDecoded (kindOf a (lastOf rx))) (addressRows (adrOf rx)) (ToOne (adrOf rx % 32))
-      ∙ rw (normal, mirror-number (adrOf rx % 32), broadcast-number, net)
-      (kinds (topBit (adrOf rx)) (broadcastBit (adrOf rx)) (mirrorBit (adrOf rx)) (ownNode s rx) (ownLength s rx) (voidIn s rx))
+      let net : lastOf (k .received) - 3 ≡ netIn (k .received) = omega arith in
+      first-read (λ (a : Address). ofDecoded (kindOf a (lastOf (k .received)))) (addressRows adr) (ToOne (adr % 32))
+      ∙ rw (net, normal-number (adr % 32) (netIn (k .received)), mirror-number (adr % 32), broadcast-number)
+      (kinds (topBit adr) (broadcastBit adr) (mirrorBit adr) nodeOther lengthOther isVoidIn)
 
   -- ---- the frame check
 
-  abbrev frameNumbers : List (Bool × ℕ)
-  frameNumbers = readRows (λ (r : FrameCheck). ofDecoded (decodedFrom r (adrOf rx))) (frameRows rx)
-
-  frame-number : numberIn (executeOf s t vs control status rx out) ≡ firstOf frameNumbers (tableNumber s rx)
+  frame-number : numberIn (executeOf k) ≡ firstOf (frameNumbers (k .received)) tableNumber
   unfolding executeOf frameOf
   frame-number =
-      first-read (λ (r : FrameCheck). ofDecoded (decodedFrom r (adrOf rx))) (frameRows rx) (Sound (lastOf rx))
-      ∙ ap (λ (n : ℕ). firstOf frameNumbers n) sound-number
+      first-read (λ (r : FrameCheck). ofDecoded (decodedFrom r adr)) (frameRows (k .received)) (Sound (lastOf (k .received)))
+      ∙ ap (λ (n : ℕ). firstOf (frameNumbers (k .received)) n) sound-number
 
   -- ---- the opening check, and the whole
 
-  abbrev ofOpening : Opening → ℕ
-  ofOpening o = numberIn (callOpened o s t vs control status rx out)
-
   abbrev openingNumbers : List (Bool × ℕ)
-  openingNumbers = readRows ofOpening (openingRows s t vs (length out))
+  openingNumbers = readRows openedNumber (openingRows (lentBy k))
 
-  call-number : numberIn (callOf s t vs control status rx out) ≡ firstOf openingNumbers (numberIn (executeOf s t vs control status rx out))
+  call-number : numberIn (callOf k) ≡ firstOf openingNumbers (numberIn (executeOf k))
   unfolding callOf openingOf
-  call-number = first-read ofOpening (openingRows s t vs (length out)) Passed
+  call-number = first-read (λ (o : Opening). numberIn (callOpened o k)) (openingRows (lentBy k)) Passed
 
-  pub answer-table : answerNumber (callOf s t vs control status rx out .served .answer)
-      ≡ firstOf (answerRows s t vs (length out) rx) (acceptedNumber rx)
+  pub answer-table : answerNumber (callOf k .served .answer) ≡ firstOf (answerRows k) (acceptedNumber (k .received))
   answer-table = call-number ∙ ap (λ (n : ℕ). firstOf openingNumbers n) frame-number
 
-  pub answer-exactly : Chosen (answerRows s t vs (length out) rx) (acceptedNumber rx) (answerNumber (callOf s t vs control status rx out .served .answer))
+  pub answer-exactly : Chosen (answerRows k) (acceptedNumber (k .received)) (answerNumber (callOf k .served .answer))
   answer-exactly =
-      subst (λ (n : ℕ). Chosen (answerRows s t vs (length out) rx) (acceptedNumber rx) n) (sym answer-table)
-      (first-chosen (answerRows s t vs (length out) rx) (acceptedNumber rx))
+      subst (λ (n : ℕ). Chosen (answerRows k) (acceptedNumber (k .received)) n) (sym answer-table) (first-chosen (answerRows k) (acceptedNumber (k .received)))
 
-  pub exactly-answer : (n : ℕ) → Chosen (answerRows s t vs (length out) rx) (acceptedNumber rx) n
-      → answerNumber (callOf s t vs control status rx out .served .answer) ≡ n
-  exactly-answer n c = answer-table ∙ sym (chosen-first (answerRows s t vs (length out) rx) (acceptedNumber rx) n c)
+  pub exactly-answer : (n : ℕ) → Chosen (answerRows k) (acceptedNumber (k .received)) n → answerNumber (callOf k .served .answer) ≡ n
+  exactly-answer n c = answer-table ∙ sym (chosen-first (answerRows k) (acceptedNumber (k .received)) n c)
 
-  pub beyond-frame : openingOf s t vs (length out) ≡ Passed → Framed rx → PastFrame (callOf s t vs control status rx out)
+  pub beyond-frame : openingAt k ≡ Passed → Framed (k .received) → PastFrame (callOf k)
   beyond-frame p f =
-      let o = called s t vs control status rx out Passed p
-      ∙ executed s t vs control status rx out (kindOf (addressOf (adrOf rx)) (lastOf rx)) (framed-decoded rx f) in
-      subst NotFrame (sym (ap numberIn o ∙ sound-number)) (table-beyond s rx)
+      let o = called k Passed p ∙ executed k (kindOf (addressOf adr) (lastOf (k .received))) (framed-decoded (k .received) f) in
+      subst NotFrame (sym (ap numberIn o ∙ sound-number)) table-beyond

@@ -2,55 +2,53 @@
 --     refused-keeps     a refused call leaves values, control words and reply buffer as they were, and reports length 0
 --     opening-kept      after a call that passed the opening check, the next one passes it too
 --     buffer-kept       a call that passed the opening check leaves a buffer of the same length
-use Prim.Native.Nat.{ℕ, _+_, _/_, _%_, _≤_, _<_}
+use Prim.Native.Nat.{ℕ, _+_, _*_, _/_, _<_}
 use mathlib.Core.Path.{_≡_, refl}
-use mathlib.Core.Bool.{Bool, true, false, cond, false≢true}
+use mathlib.Core.Bool.{Bool, true, false, false≢true}
 use mathlib.Core.List.{List}
 use native.Mathlib.Omega.{arith}
 use lib.Dec.{eqb}
 use lib.ListN.{length}
 use Rattle.words.specs.declared.Words.{Words}
 use Rattle.setup.specs.declared.Setup.{Setup}
-use Rattle.setup.proofs.SetupLaws.{ok-configured, area-few}
-use Rattle.entry.specs.Fields.{countOf}
-use Rattle.entry.specs.Limits.{isWithin}
-use Rattle.table.specs.Records.{entryAt, entries, findIn, firstPlace}
+use Rattle.setup.specs.SetupRules.{areaCount}
+use Rattle.setup.proofs.SetupLaws.{Configured, ok-configured, area-few}
+use Rattle.table.specs.Records.{entryAt, firstPlace}
 use Rattle.table.specs.declared.Found.{Found}
 use Rattle.table.specs.declared.Found.the-variants.{At, Nothing}
-use Rattle.table.proofs.RecordsLaws.{found-below}
 use Rattle.frame.specs.declared.Decoded.the-variants.{Mirror}
 use Rattle.frame.proofs.DecodedLaws.{telegram-framed}
+use Rattle.opening.specs.Lent.{Lent, lending}
 use Rattle.opening.specs.Answers.{openingOf}
 use Rattle.opening.specs.declared.Opening.the-variants.{Passed}
 use Rattle.opening.proofs.AnswersLaws.{passed-opened}
 use Rattle.opening.proofs.KeptLaws.{change-keeps-opening}
 use Rattle.area.specs.declared.Area.{Area}
 use Rattle.area.specs.Read.{areaAt}
-use Rattle.net.proofs.NetLaws.{length-normal}
+use Rattle.net.proofs.NormalLaws.{length-normal}
 use Rattle.net.proofs.SealLaws.{written-long}
+use Rattle.page.specs.Page.{fullNumber}
 use Rattle.task.specs.declared.Act.{Act}
 use Rattle.task.specs.declared.Act.the-variants.{Nothing as Idle, Read, Change, Count, Refuse}
-use Rattle.task.specs.declared.Width.{Width}
-use Rattle.task.specs.declared.Task.{Task}
 use Rattle.task.specs.declared.Verdict.{Verdict}
 use Rattle.task.specs.declared.Verdict.the-variants.{Granted, Denied}
-use Rattle.task.specs.Task.{taskOf}
-use Rattle.page.specs.Page.{fullNumber, named}
-use Rattle.task.specs.Verdict.{verdictOf, elementOf}
-use Rattle.slave.specs.Perform.{carried, nothingDone, doneOf, verdictFor, performOn, performFound, foundOf, idle, performOf}
-use Rattle.setup.specs.SetupRules.{netBytes}
-use Rattle.slave.specs.Slave.{Outcome, taskDone, replyOf, callOf}
-use Rattle.slave.proofs.PerformLaws.{granted-element, granted-inside}
+use Rattle.deed.specs.Deed.{taskIn, valueIn, elementIn, verdictIn, actDeed, deedOn}
+use Rattle.deed.proofs.DeedLaws.{element-there, change-inside}
+use Rattle.slave.specs.declared.Plan.{Plan}
+use Rattle.slave.specs.Perform.{foundOf, planOn, planIn, planAt, carriedOut}
+use Rattle.slave.specs.Slave.{Call, Outcome, lentBy, openingAt, netIn, replyOf, replyAt, taskAt, callOf}
+use Rattle.slave.proofs.CaseLaws.{area-sized}
+use Rattle.slave.proofs.PerformLaws.{found-whole, named-found}
 use Rattle.claims_slave.specs.Outcomes.{isRefused, Untouched}
 use Rattle.claims_slave.proofs.Cases.{call-cases}
 
 -- ---- refusals
 
-module _ (s : Setup) (t vs : List ℕ) (control status : Words) (rx out : List ℕ) where
-  pub refused-keeps : isRefused (callOf s t vs control status rx out .served .answer) ≡ true → Untouched (callOf s t vs control status rx out) control vs out
+module _ (k : Call) where
+  pub refused-keeps : isRefused (callOf k .served .answer) ≡ true → Untouched (callOf k) k
   refused-keeps =
-      call-cases s t vs control status rx out (λ o. isRefused (o .served .answer) ≡ true → Untouched o control vs out)
-      (λ r b e. record { silent = refl; held = refl; values-stay = refl; buffer-stays = refl })
+      call-cases k (λ o. isRefused (o .served .answer) ≡ true → Untouched o k)
+      (λ r b e. record { silent = refl; held = refl; memory-stays = refl; buffer-stays = refl })
       (λ o d l e. absurd (false≢true e))
       (λ o d e. absurd (false≢true e))
       (λ o d l v e. absurd (false≢true e))
@@ -59,94 +57,85 @@ module _ (s : Setup) (t vs : List ℕ) (control status : Words) (rx out : List �
 
 -- what is found is a record of the table
 pub found-is : (t : List ℕ) (a : Area) (j : ℕ) → foundOf t a ≡ At j → j < length t / 12
-unfolding foundOf entries
-found-is t a j = go (named (a .pke))
-  where
-    go : (b : Bool) → cond b (findIn t (fullNumber (a .pke) (a .ind))) Nothing ≡ At j → j < length t / 12
-    go true e = omega (arith, found-below (fullNumber (a .pke) (a .ind)) t (length t / 12) 0 j e .below)
-    go false e = let z : _≡_ {A = ℕ} 0 1 = cc in absurd (omega arith)
+found-is t a j e = omega (arith, found-whole t (fullNumber (a .pke) (a .ind)) j (named-found t a j e))
 
-module _ (s : Setup) (t vs : List ℕ) (room : ℕ) (passed : openingOf s t vs room ≡ Passed) where
-  abbrev Stays : List ℕ → Type 0
-  Stays ws = openingOf s t ws room ≡ Passed
+module _ (l : Lent) (passed : openingOf l ≡ Passed) where
+  -- a plan carried out keeps it
+  abbrev Stays : Plan → Type 0
+  Stays p = openingOf (lending l (carriedOut p (l .memory) .memory)) ≡ Passed
 
-  act-keeps : (n : ℕ) (act : Act) (width : Width) (array : Bool) (reply : ℕ) (a : Area) (j : ℕ) → j < length t / 12
-      → verdictOf act width array (entryAt t j .elements) (entryAt t j .double) (entryAt t j .writable) (isWithin (entryAt t j) (carried width (a .value))) (a .ind % 256) n ≡ Granted
-      → Stays (doneOf act reply a (entryAt t j .double) (entryAt t j .elements) (carried width (a .value)) vs (firstPlace t j + elementOf array (entryAt t j .elements) (a .ind % 256)) .values)
-  unfolding countOf
-  act-keeps n Idle width array reply a j below g = passed
-  act-keeps n Read width array reply a j below g = passed
-  act-keeps n Change width array reply a j below g =
-      let e = entryAt t j in
-      let v = carried width (a .value) in
-      change-keeps-opening s t vs room j (elementOf array (e .elements) (a .ind % 256)) v passed below
-      (granted-element Change width array (e .elements) (e .double) (e .writable) (isWithin e v) (a .ind % 256) n g)
-      (granted-inside width array (e .elements) (e .double) (e .writable) (isWithin e v) (a .ind % 256) n g)
-  act-keeps n Count width array reply a j below g = passed
-  act-keeps n Refuse width array reply a j below g = passed
+  module _ (n : ℕ) (a : Area) where
+    module _ (j : ℕ) (below : j < length (l .table) / 12) where
+      act-keeps : (act : Act) → taskIn a .act ≡ act → verdictIn n a (entryAt (l .table) j) ≡ Granted
+          → Stays (record { deed = actDeed act a (entryAt (l .table) j); first = firstPlace (l .table) j })
+      act-keeps Idle q g = passed
+      act-keeps Read q g = passed
+      act-keeps Change q g =
+          let e = entryAt (l .table) j in
+          change-keeps-opening l j (elementIn a e) (valueIn a) passed below (element-there n a e g) (change-inside n a e q g)
+      act-keeps Count q g = passed
+      act-keeps Refuse q g = passed
 
-  record-keeps : (n : ℕ) (k : Task) (a : Area) (j : ℕ) → j < length t / 12 → Stays (performOn n k a (entryAt t j) vs (firstPlace t j) .values)
-  unfolding performOn
-  record-keeps n k a j below = go (verdictFor n k a (entryAt t j)) refl
+      record-keeps : Stays (record { deed = deedOn n a (entryAt (l .table) j); first = firstPlace (l .table) j })
+      unfolding deedOn
+      record-keeps = go (verdictIn n a (entryAt (l .table) j)) refl
+        where
+          go : (v : Verdict) → verdictIn n a (entryAt (l .table) j) ≡ v → Stays (record { deed = deedOn n a (entryAt (l .table) j); first = firstPlace (l .table) j })
+          go Granted g = rw g (act-keeps (taskIn a .act) refl g)
+          go (Denied error) g = rw g passed
+
+    found-keeps : (f : Found) → foundOf (l .table) a ≡ f → Stays (planOn n (l .table) a f)
+    found-keeps Nothing e = passed
+    found-keeps (At j) e = record-keeps j (found-is (l .table) a j e)
+
+    area-keeps : Stays (planIn n (l .table) a)
+    unfolding planIn
+    area-keeps = go (eqb (a .pke / 4096) 0) refl
+      where
+        go : (b : Bool) → eqb (a .pke / 4096) 0 ≡ b → Stays (planIn n (l .table) a)
+        go true e = rw e passed
+        go false e = rw e (found-keeps (foundOf (l .table) a) refl)
+
+  task-keeps : (n : ℕ) (rx : List ℕ) → Stays (planAt n (l .table) rx)
+  unfolding planAt
+  task-keeps n rx = go (eqb n 0) refl
     where
-      go : (v : Verdict) → verdictFor n k a (entryAt t j) ≡ v → Stays (performOn n k a (entryAt t j) vs (firstPlace t j) .values)
-      go Granted g = rw g (act-keeps n (k .act) (k .width) (k .array) (k .reply) a j below g)
-      go (Denied error) g = rw g passed
-
-  task-keeps : (n : ℕ) (rx : List ℕ) → Stays (taskDone n t vs rx .values)
-  unfolding taskDone performOf
-  task-keeps n rx = go (eqb n 0)
-    where
-      a : Area
-      a = areaAt rx n
-
-      k : Task
-      k = taskOf (a .pke / 4096)
-
-      found-keeps : (f : Found) → foundOf t a ≡ f → Stays (performFound n k a t vs f .values)
-      found-keeps Nothing e = passed
-      found-keeps (At j) e = record-keeps n k a j (found-is t a j e)
-
-      busy : (b : Bool) → Stays (cond b (nothingDone vs) (performFound n k a t vs (foundOf t a)) .values)
-      busy true = passed
-      busy false = found-keeps (foundOf t a) refl
-
-      go : (b : Bool) → Stays (cond b (nothingDone vs) (performOf n t vs a) .values)
-      go true = passed
-      go false = busy (idle (k .act))
+      go : (b : Bool) → eqb n 0 ≡ b → Stays (planAt n (l .table) rx)
+      go true e = rw e passed
+      go false e = rw e (area-keeps n (areaAt rx n))
 
 -- ---- the buffer's length
 
--- a reply has the net bytes of the set-up, and four more
-pub reply-long : (s : Setup) (a : Area) (status : Words) → s .pzd ≤ 4 → length (replyOf s a status) ≡ netBytes s + 4
+-- a reply has the words of its areas, and four more bytes
+pub reply-long : (s : Setup) (n : ℕ) (a : Area) (status : Words) → Configured s → length (replyOf s n a status) ≡ (areaCount s n + s .pzd) * 2 + 4
 unfolding replyOf
-reply-long s a status few = omega (arith, length-normal a (s .pkw) status (s .pzd) few (s .node))
+reply-long s n a status c = omega (arith, length-normal a (areaCount s n) status (s .pzd) (c .process) (area-sized s n c) (s .node))
 
 -- ---- the next call passes the opening check too
 
-module _ (s : Setup) (t vs : List ℕ) (control status : Words) (rx out : List ℕ) where
+module _ (k : Call) where
   abbrev after : Outcome
-  after = callOf s t vs control status rx out
+  after = callOf k
 
-  pub buffer-kept : openingOf s t vs (length out) ≡ Passed → length (after .reply) ≡ length out
+  pub buffer-kept : openingAt k ≡ Passed → length (after .reply) ≡ length (k .buffer)
   buffer-kept p =
-      let o = passed-opened s t vs (length out) p in
-      let c = ok-configured s (o .setup-good) in
-      call-cases s t vs control status rx out (λ r. length (r .reply) ≡ length out)
+      let o = passed-opened (lentBy k) p in
+      let c = ok-configured (k .setup) (o .setup-good) in
+      let n = netIn (k .received) in
+      call-cases k (λ r. length (r .reply) ≡ length (k .buffer))
       (λ r b. refl)
-      (λ q d l. let a = taskDone (s .pkw) t vs rx .area in
-      written-long out (replyOf s a status) (omega (arith, reply-long s a status (c .process), o .buffer, c .process, area-few s c)))
-      (λ q d. let f = telegram-framed rx (Mirror (s .node)) d refl in
-      written-long out rx (omega (arith, f .counted .count, f .counted .high, o .buffer)))
+      (λ q d l. written-long (k .buffer) (replyAt n k) (omega (arith, reply-long (k .setup) n (taskAt n k .area) (k .status) c, o .buffer, c .process, area-few (k .setup) c)))
+      (λ q d. let f = telegram-framed (k .received) (Mirror (k .setup .node)) d refl in
+      written-long (k .buffer) (k .received) (omega (arith, f .counted .count, f .counted .high, o .buffer)))
       (λ q d l v. refl)
 
-  pub values-kept : openingOf s t vs (length out) ≡ Passed → openingOf s t (after .values) (length out) ≡ Passed
-  values-kept p =
-      call-cases s t vs control status rx out (λ r. openingOf s t (r .values) (length out) ≡ Passed)
+  pub memory-kept : openingAt k ≡ Passed → openingOf (lending (lentBy k) (after .memory)) ≡ Passed
+  memory-kept p =
+      call-cases k (λ r. openingOf (lending (lentBy k) (r .memory)) ≡ Passed)
       (λ r b. p)
-      (λ q d l. task-keeps s t vs (length out) p (s .pkw) rx)
+      (λ q d l. task-keeps (lentBy k) p (areaCount (k .setup) (netIn (k .received))) (k .received))
       (λ q d. p)
       (λ q d l v. p)
 
-  pub opening-kept : openingOf s t vs (length out) ≡ Passed → openingOf s t (after .values) (length (after .reply)) ≡ Passed
-  opening-kept p = rw (buffer-kept p) (values-kept p)
+  pub opening-kept : openingAt k ≡ Passed → openingOf (record { setup = k .setup; table = k .table; memory = after .memory; room = length (after .reply) }) ≡ Passed
+  opening-kept p = rw (buffer-kept p) (memory-kept p)

@@ -14,14 +14,16 @@ use Rattle.frame.specs.Frame.{frameOf}
 use Rattle.frame.specs.Address.{addressOf}
 use Rattle.opening.specs.Rules.{risingFrom, eachOk, runOk, runsOk}
 use Rattle.opening.specs.Answers.{openingOf}
-use Rattle.net.specs.Net.{areaWords, netOf}
+use Rattle.area.specs.Net.{netOf}
 use Rattle.area.specs.Read.{valueAt, areaAt, processAt}
 use Rattle.task.specs.Task.{tasks, taskOf}
 use Rattle.page.specs.Page.{pageOf}
 use Rattle.task.specs.Verdict.{verdictOf, elementOf}
 use Rattle.broadcast.specs.Broadcast.{isVoid, mergeOf, controlAfter}
-use Rattle.slave.specs.Perform.{performOn, foundOf, performOf}
-use Rattle.slave.specs.Slave.{taskDone, controlTaken, replyOf, normalCase, mirrorCase, commandAt, broadcastCase, executeOf, callOf}
+use Rattle.deed.specs.Deed.{deedOn}
+use Rattle.control.specs.Control.{controlTaken, commandAt}
+use Rattle.slave.specs.Perform.{foundOf, planIn, planAt}
+use Rattle.slave.specs.Slave.{replyOf, normalCase, mirrorCase, broadcastCase, executeOf, callOf}
 use Rattle.claims_known.specs.Telegrams.{setup, twoWords, process, status, task1082, value1082}
 use Rattle.claims_slave.specs.Sequence.{State, Event, Seen, Run, runOf}
 use Rattle.answers.specs.SlaveNumbers.{answerNumber}
@@ -32,7 +34,7 @@ table = 0x08 ∷ 0x74 ∷ 0x40 ∷ 0x00 ∷ 0x00 ∷ 0x00 ∷ 0x00 ∷ 0x00 ∷ 
 
 -- its value is 5000
 abbrev pub startState : State
-startState = record { values = 5000 ∷ []; control = twoWords 0 0; buffer = replicate 256 0 }
+startState = record { memory = record { values = 5000 ∷ [] }; control = twoWords 0 0; buffer = replicate 256 0 }
 
 abbrev pub eventOf : List ℕ → Event
 eventOf rx = record { received = rx; status = status }
@@ -73,6 +75,6 @@ ran = runOf setup table startState (map (λ (c : List ℕ × ℕ × List ℕ). e
 
 -- each call is answered so, one after another; the value left is the one that was changed, the control words are those of the
 -- last normal telegram with the broadcast's masked bits
-pub known-sequence : (map heard (ran .seen) ≡ map awaited calls) × (ran .last .values ≡ 6000 ∷ []) × (ran .last .control ≡ process)
-unfolding runOf callOf openingOf setupOk risingFrom eachOk runOk runsOk entryOf countOf signedOf numberOf atMost fitsIn isWithin entryOk entryAt entriesFrom entries findFrom countsOf executeOf xorAll frameOf addressOf normalCase mirrorCase broadcastCase commandAt taskDone controlTaken replyOf areaWords netOf valueAt areaAt processAt tasks taskOf pageOf verdictOf elementOf isVoid mergeOf controlAfter performOn foundOf performOf
+pub known-sequence : (map heard (ran .seen) ≡ map awaited calls) × (ran .last .memory .values ≡ 6000 ∷ []) × (ran .last .control ≡ process)
+unfolding runOf callOf openingOf setupOk risingFrom eachOk runOk runsOk entryOf countOf signedOf numberOf atMost fitsIn isWithin entryOk entryAt entriesFrom entries findFrom countsOf executeOf xorAll frameOf addressOf normalCase mirrorCase broadcastCase commandAt controlTaken replyOf netOf valueAt areaAt processAt tasks taskOf pageOf verdictOf elementOf isVoid mergeOf controlAfter deedOn foundOf planIn planAt
 known-sequence = (refl, refl, refl)

@@ -4,118 +4,134 @@
 --     change-stored       a granted change stores the value that it carries at the place that it means, and nowhere else
 --     control-replaced    with bit 10, the first PZD control words are those received
 --     taken-runs          after a broadcast that is taken, bit 10 of the first control word is 1
-use Prim.Native.Nat.{ℕ, _+_, _/_, _<_}
+use Prim.Native.Nat.{ℕ, _/_, _<_}
 use mathlib.Core.Path.{_≡_, refl, sym, ap, _∙_}
-use mathlib.Core.Bool.{false}
-use mathlib.Core.List.{List}
+use mathlib.Core.Bool.{Bool, true, false, false≢true}
 use native.Mathlib.Omega.{arith}
-use borrow.Author.Tests.{ne-eqb}
-use lib.ListN.{length, set}
+use borrow.Author.Tests.{ne-eqb, eqb-true}
+use lib.Dec.{eqb}
+use lib.ListN.{length}
 use Rattle.rows.specs.Bits.{bit}
 use Rattle.words.specs.Words.{Bytes}
-use Rattle.words.specs.declared.Words.{Words}
-use Rattle.setup.specs.declared.Setup.{Setup}
-use Rattle.setup.proofs.SetupLaws.{ok-configured, area-few}
-use Rattle.table.specs.Records.{entryAt, entries, firstPlace}
-use Rattle.table.proofs.RecordsLaws.{places-fit}
-use Rattle.frame.specs.Frame.{frameOf}
+use Rattle.setup.proofs.SetupLaws.{ok-configured, area-few, own-words}
+use Rattle.table.specs.Records.{entryAt, firstPlace}
+use Rattle.frame.specs.Frame.{lastOf, frameOf}
 use Rattle.frame.specs.Address.{kindOf, decodedOf}
 use Rattle.frame.specs.declared.Address.{Address}
 use Rattle.frame.specs.declared.FrameCheck.the-variants.{Sound}
 use Rattle.frame.specs.declared.Decoded.the-variants.{Normal}
 use Rattle.frame.proofs.AddressLaws.{to-one}
-use Rattle.frame.proofs.DecodedLaws.{telegram-framed, normal-bounds}
+use Rattle.frame.proofs.DecodedLaws.{telegram-framed}
+use Rattle.opening.specs.Lent.{stored}
 use Rattle.opening.proofs.AnswersLaws.{passed-opened}
-use Rattle.net.specs.Net.{netOf}
-use Rattle.area.specs.Read.{processAt}
-use Rattle.net.proofs.NetLaws.{length-net}
+use Rattle.area.specs.Net.{fixedWords, processWords, netOf}
 use Rattle.area.proofs.AreaLaws.{process-first}
-use Rattle.net.proofs.SealLaws.{telegram-passes, written-first, written-rest}
+use Rattle.net.proofs.SealLaws.{length-telegram, telegram-passes, written-first, written-rest}
 use Rattle.broadcast.specs.Broadcast.{isVoid}
 use Rattle.broadcast.proofs.VoidLaws.{not-void-commands, runs-after}
-use Rattle.answers.specs.declared.Answer.the-variants.{Replied, Mirrored, Taken}
-use Rattle.setup.specs.SetupRules.{netBytes}
-use Rattle.slave.specs.Slave.{firstWord, commandAt, taskDone, replyOf, controlTaken, callOf}
+use Rattle.page.specs.Page.{fullNumber}
 use Rattle.task.specs.declared.Act.{Act}
-use Rattle.slave.specs.Perform.{idle, doneOf, performOf}
-use Rattle.slave.proofs.PerformLaws.{task-granted, granted-place}
-use Rattle.claims_slave.specs.Outcomes.{SoundReply, SameReply, areaOf, taskIn, GrantedChange, placeIn, valueIn}
-use Rattle.claims_slave.proofs.Kept.{reply-long, found-is}
+use Rattle.task.specs.declared.Act.the-variants.{Nothing, Read, Change, Count, Refuse}
+use Rattle.task.specs.Task.{tasks, taskOf}
+use Rattle.deed.specs.Deed.{taskIn, valueIn, actDeed}
+use Rattle.deed.proofs.DeedLaws.{deed-granted, element-there}
+use Rattle.control.specs.Control.{firstWord, processIn, controlTaken, commandAt, commandIn}
+use Rattle.answers.specs.declared.Answer.the-variants.{Replied, Mirrored, Taken}
+use Rattle.slave.specs.Perform.{planIn, planAt, doneBy}
+use Rattle.slave.specs.Slave.{Call, lentBy, netIn, taskAt, replyOf, replyAt, callOf}
+use Rattle.slave.proofs.PerformLaws.{found-fits, named-found}
+use Rattle.claims_slave.specs.Outcomes.{SoundReply, SameReply, countIn, areaIn, GrantedChange, placeIn}
+use Rattle.claims_slave.proofs.Kept.{reply-long}
 use Rattle.claims_slave.proofs.WhenAnswered.{replied-call, mirrored-call, taken-call, replied-exactly, mirrored-exactly, taken-exactly}
 
 -- ---- replies
 
-module _ (s : Setup) (t vs : List ℕ) (control status : Words) (rx out : List ℕ) where
-  pub reply-sound : callOf s t vs control status rx out .served .answer ≡ Replied → SoundReply s rx out (callOf s t vs control status rx out)
+module _ (k : Call) where
+  pub reply-sound : callOf k .served .answer ≡ Replied → SoundReply (callOf k) k
   unfolding replyOf
   reply-sound e =
-      let h = replied-exactly s t vs control status rx out .0 e in
-      let c = ok-configured s (passed-opened s t vs (length out) (h .0) .setup-good) in
-      let a = taskDone (s .pkw) t vs rx .area in
-      let net = netOf a (s .pkw) status (s .pzd) in
-      let long : length net ≡ netBytes s = length-net a (s .pkw) status (s .pzd) (c .process) ∙ omega arith in
-      let small = area-few s c in
-      let frame : frameOf (replyOf s a status) ≡ Sound (3 + netBytes s) =
-      telegram-passes (s .node) net (omega (arith, c .some)) (omega (arith, c .process)) ∙ ap Sound (omega arith) in
-      let sent = written-first out (replyOf s a status) in
-      let rl = reply-long s a status (c .process) in
-      let f = telegram-framed rx (Normal (s .node) 3 (3 + netBytes s)) (h .1) refl in
-      let b = normal-bounds rx (s .node) 3 (3 + netBytes s) (h .1) in
-      rw (replied-call s t vs control status rx out (h .0) (h .1))
+      let h = replied-exactly k .0 e in
+      let c = ok-configured (k .setup) (passed-opened (lentBy k) (h .0) .setup-good) in
+      let n = netIn (k .received) in
+      let a = taskAt n k .area in
+      let net = netOf (fixedWords (countIn k) a) (processWords (k .setup .pzd) (k .status)) in
+      let f = telegram-framed (k .received) (Normal (k .setup .node) 3 (lastOf (k .received))) (h .1) refl in
+      let own = own-words (k .setup) n (h .2) in
+      let rl = reply-long (k .setup) n a (k .status) c in
+      let long : length net ≡ n = omega (arith, length-telegram (k .setup .node) net, rl, own) in
+      let frame : frameOf (replyAt n k) ≡ Sound (lastOf (k .received)) =
+      telegram-passes (k .setup .node) net (omega (arith, f .counted .long)) (omega (arith, own, c .process, area-few (k .setup) c)) ∙ ap Sound (omega (arith, f .counted .long)) in
+      let sent = written-first (k .buffer) (replyAt n k) in
+      rw (replied-call k (h .0) (h .1) (h .2))
       (record {
         passes = ap frameOf sent ∙ frame;
-        reads = ap decodedOf sent ∙ rw frame (ap (λ (x : Address). kindOf x (3 + netBytes s)) (to-one (s .node) (c .nodes)));
+        reads = ap decodedOf sent ∙ rw frame (ap (λ (x : Address). kindOf x (lastOf (k .received))) (to-one (k .setup .node) (c .nodes)));
         reported = ap length (sym sent);
-        as-long = rl ∙ omega (arith, b .1, f .counted .long);
-        rest = written-rest out (replyOf s a status);
+        as-long = rl ∙ omega (arith, own, f .counted .long);
+        rest = written-rest (k .buffer) (replyAt n k);
       })
 
-  pub mirror-same : callOf s t vs control status rx out .served .answer ≡ Mirrored → SameReply rx out (callOf s t vs control status rx out)
+  pub mirror-same : callOf k .served .answer ≡ Mirrored → SameReply (callOf k) k
   mirror-same e =
-      let h = mirrored-exactly s t vs control status rx out .0 e in
-      rw (mirrored-call s t vs control status rx out (h .0) (h .1))
-      (record { same = written-first out rx; as-long = refl; rest = written-rest out rx })
+      let h = mirrored-exactly k .0 e in
+      rw (mirrored-call k (h .0) (h .1))
+      (record { same = written-first (k .buffer) (k .received); as-long = refl; rest = written-rest (k .buffer) (k .received) })
 
 -- ---- what is stored
 
--- a granted change of record j
-module _ (s : Setup) (t vs rx : List ℕ) (j : ℕ) (g : GrantedChange s t rx j) where
-  change-done : taskDone (s .pkw) t vs rx .values ≡ set vs (placeIn s t rx j) (valueIn s rx)
-  unfolding taskDone performOf
-  change-done =
-      let k = taskIn s rx in
-      let a = areaOf s rx in
-      let e = entryAt t j in
-      let busy : idle (k .act) ≡ false = ap idle (g .changes) in
-      rw (ne-eqb (s .pkw) 0 (g .has-area), busy, g .found, task-granted (s .pkw) k a e vs (firstPlace t j) (g .granted))
-      (ap (λ (x : Act). doneOf x (k .reply) a (e .double) (e .elements) (valueIn s rx) vs (placeIn s t rx j) .values) (g .changes))
+abbrev isChange : Act → Bool
+isChange Nothing = false
+isChange Read = false
+isChange Change = true
+isChange Count = false
+isChange Refuse = false
 
-module _ (s : Setup) (t vs : List ℕ) (control status : Words) (rx out : List ℕ) where
-  pub change-stored : callOf s t vs control status rx out .served .answer ≡ Replied → (j : ℕ) → GrantedChange s t rx j
-      → (callOf s t vs control status rx out .values ≡ set vs (placeIn s t rx j) (valueIn s rx)) × (placeIn s t rx j < length vs)
-  unfolding entries
+-- task 0 is no change
+change-busy : (id : ℕ) → taskOf id .act ≡ Change → eqb id 0 ≡ false
+unfolding taskOf tasks
+change-busy id q = go (eqb id 0) refl
+  where
+    go : (b : Bool) → eqb id 0 ≡ b → eqb id 0 ≡ false
+    go true e = absurd (false≢true (ap isChange (rw (eqb-true id 0 e) at q)))
+    go false e = e
+
+module _ (k : Call) where
+  -- a granted change of record j
+  change-done : (j : ℕ) → GrantedChange k j → taskAt (netIn (k .received)) k .memory ≡ stored (k .memory) (placeIn k j) (valueIn (areaIn k))
+  unfolding planAt planIn
+  change-done j g =
+      let a = areaIn k in
+      let e = entryAt (k .table) j in
+      rw (ne-eqb (countIn k) 0 (g .has-area), change-busy (a .pke / 4096) (g .changes), g .found, deed-granted (countIn k) a e (g .granted))
+      (ap (λ (x : Act). doneBy (actDeed x a e) (firstPlace (k .table) j) (k .memory) .memory) (g .changes))
+
+  pub change-stored : callOf k .served .answer ≡ Replied → (j : ℕ) → GrantedChange k j
+      → (callOf k .memory ≡ stored (k .memory) (placeIn k j) (valueIn (areaIn k))) × (placeIn k j < length (k .memory .values))
   change-stored e j g =
-      let h = replied-exactly s t vs control status rx out .0 e in
-      let o = passed-opened s t vs (length out) (h .0) in (
-        rw (replied-call s t vs control status rx out (h .0) (h .1)) (change-done s t vs rx j g),
-        granted-place (s .pkw) (taskIn s rx) (areaOf s rx) (entryAt t j) vs (firstPlace t j) (g .granted)
-            (omega (arith, o .count, places-fit t (length t / 12) j (found-is t (areaOf s rx) j (g .found)))),
+      let h = replied-exactly k .0 e in
+      let o = passed-opened (lentBy k) (h .0) in
+      let a = areaIn k in
+      let fits = found-fits (k .table) (fullNumber (a .pke) (a .ind)) j (named-found (k .table) a j (g .found)) in (
+        rw (replied-call k (h .0) (h .1) (h .2)) (change-done j g),
+        omega (arith, o .count, fits, element-there (countIn k) a (entryAt (k .table) j) (g .granted)),
       )
 
-  pub control-replaced : callOf s t vs control status rx out .served .answer ≡ Replied → (s .pzd ≡ 0 → ⊥) → bit 10 (firstWord s rx) ≡ 1
-      → callOf s t vs control status rx out .served .control ≡ processAt rx (s .pkw) (s .pzd) control
+  pub control-replaced : callOf k .served .answer ≡ Replied → (k .setup .pzd ≡ 0 → ⊥) → bit 10 (firstWord (k .setup) (netIn (k .received)) (k .received)) ≡ 1
+      → callOf k .served .control ≡ processIn (k .setup) (netIn (k .received)) (k .control) (k .received)
   unfolding controlTaken
-  control-replaced e n b =
-      let h = replied-exactly s t vs control status rx out .0 e in
-      rw (replied-call s t vs control status rx out (h .0) (h .1)) (rw (ne-eqb (s .pzd) 0 n, b))
+  control-replaced e some b =
+      let h = replied-exactly k .0 e in
+      rw (replied-call k (h .0) (h .1) (h .2)) (rw (ne-eqb (k .setup .pzd) 0 some, b))
 
-  pub taken-runs : Bytes rx → callOf s t vs control status rx out .served .answer ≡ Taken → bit 10 (callOf s t vs control status rx out .served .control .w1) ≡ 1
+  pub taken-runs : Bytes (k .received) → callOf k .served .answer ≡ Taken → bit 10 (callOf k .served .control .w1) ≡ 1
   unfolding commandAt
   taken-runs b e =
-      let h = taken-exactly s t vs control status rx out .0 e in
-      let p = processAt rx (s .pkw) (s .pzd) control in
-      let k = not-void-commands (commandAt rx (s .pkw)) (s .pkw) (s .pzd) (firstWord s rx) (h .3) in
-      let first : firstWord s rx ≡ p .w1 = sym (process-first rx (s .pkw) (s .pzd) control (k .process)) in
-      let v : isVoid (commandAt rx (s .pkw)) (s .pkw) (s .pzd) (p .w1) ≡ false = rw first at (h .3) in
-      rw (taken-call s t vs control status rx out (h .0) (h .1) (h .2) (h .3))
-      (runs-after (commandAt rx (s .pkw)) (s .pkw) (s .pzd) control p v (omega (arith, b 5, b 6)))
+      let h = taken-exactly k .0 e in
+      let s = k .setup in
+      let n = netIn (k .received) in
+      let p = processIn s n (k .control) (k .received) in
+      let c = commandIn s n (k .received) in
+      let commands = not-void-commands c (s .pkw) (s .pzd) (firstWord s n (k .received)) (h .3) in
+      let first : firstWord s n (k .received) ≡ p .w1 = sym (process-first (k .received) (countIn k) (s .pzd) (k .control) (commands .process)) in
+      let v : isVoid c (s .pkw) (s .pzd) (p .w1) ≡ false = rw first at (h .3) in
+      rw (taken-call k (h .0) (h .1) (h .2) (h .3)) (runs-after c (s .pkw) (s .pzd) (k .control) p v (omega (arith, b 5, b 6)))

@@ -1,5 +1,4 @@
--- The whole slave call (document 01, Slave and Answer numbers): what it is given, and what it leaves. n are the net bytes of the
--- telegram.
+-- The whole slave call (document 01, Slave and Answer numbers): what it is given, and what it leaves.
 --     Call                 what a call is given
 --     lentBy k             what it lends to the opening check
 --     openingAt k          the answer of the opening check
@@ -7,6 +6,7 @@
 --     Leaves o r m out     a call that returns r leaves the memory m and the buffer out, as o has them
 --     refusedOf f k        a refusal
 --     sentBy o             the reply that a call leaves
+--     netIn rx             the net bytes of a telegram, all but 02, LGE, ADR and BCC: n in what follows
 --     taskAt n k           the parameter task, done
 --     replyAt n k          the reply to a normal telegram
 --     normalCase node n k  16, 17, or a normal telegram: task, control words, reply
@@ -73,6 +73,9 @@ refusedOf refusal k = record { served = record { answer = Refused refusal; lengt
 abbrev pub sentBy : Outcome → List ℕ
 sentBy o = take (o .served .length) (o .reply)
 
+abbrev pub netIn : List ℕ → ℕ
+netIn rx = length rx - 4
+
 -- ---- normal
 
 abbrev pub taskAt : ℕ → Call → Performed
@@ -130,7 +133,7 @@ broadcastCase n k =
 abbrev pub executeDecoded : Decoded → Call → Outcome
 executeDecoded (Normal node start end) k = normalCase node (end - start) k
 executeDecoded (Mirror node) k = mirrorCase node k
-executeDecoded Broadcast k = broadcastCase (length (k .received) - 4) k
+executeDecoded Broadcast k = broadcastCase (netIn (k .received)) k
 executeDecoded (Unread fault) k = refusedOf (InTelegram fault) k
 
 unfoldable pub executeOf : Call → Outcome

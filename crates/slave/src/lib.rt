@@ -70,9 +70,9 @@ fn first_place(t: &[u8], k: usize, count: usize) -> usize
 }
 
 // What a task asks of the values: the deed, and the first value place of the record that it means; 0 where it means none.
-struct Plan {
-    deed: Deed,
-    first: usize,
+pub struct Plan {
+    pub deed: Deed,
+    pub first: usize,
 }
 
 // The task in an area of n words, on a table of `count` places that passed the opening check. Task 0 does nothing, and no error is
