@@ -1,0 +1,7 @@
+-- What a master makes of a slave's replies.
+pub mod ReplyLaws
+pub mod SuitLaws
+pub mod AnswerLaws
+pub mod ReplyIsRead
+pub mod RoundTrip
+pub mod AnswerTable

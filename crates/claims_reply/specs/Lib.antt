@@ -1,0 +1,3 @@
+-- What is claimed of replies that a master reads.
+pub mod Claims
+pub mod AnswerTable
