@@ -1,2 +1,3 @@
 -- Laws of deeds.
 pub mod DeedLaws
+pub mod ReplyLaws
