@@ -1,9 +1,9 @@
 -- A slave takes a broadcast as it was asked, whatever its node and the master's are. Assumes nothing.
-use mathlib.Core.Path.{_≡_, refl, sym, ap, subst, _∙_}
+use mathlib.Core.Path.{_≡_, sym, ap, subst, _∙_}
 use mathlib.Core.Logic.{inl, inr}
 use mathlib.Core.Bool.{true, false, not}
 use mathlib.Core.List.{List}
-use Prim.Native.Nat.{ℕ, _+_, _-_, _*_, _/_, _%_, _<_}
+use Prim.Native.Nat.{ℕ, _+_, _*_, _<_}
 use native.Mathlib.Omega.{arith}
 use borrow.Author.Tests.{not-true}
 use lib.Dec.{lit<}
@@ -19,7 +19,7 @@ use Rattle.frame.specs.declared.Address.{Address}
 use Rattle.frame.specs.declared.Decoded.the-variants.{Broadcast as BroadcastTelegram}
 use Rattle.frame.proofs.AddressLaws.{to-all}
 use Rattle.area.specs.declared.Area.{Area}
-use Rattle.area.specs.Net.{fixedWords, processWords, netOf}
+use Rattle.area.specs.Net.{fixedWords}
 use Rattle.area.specs.Read.{Worded, firstWords}
 use Rattle.area.proofs.WordLaws.{Headed}
 use Rattle.area.proofs.StandLaws.{Stands}
@@ -32,12 +32,12 @@ use Rattle.broadcast.proofs.VoidLaws.{not-void-commands}
 use Rattle.control.specs.Control.{firstWord, processIn, commandAt, voidIn}
 use Rattle.request.specs.declared.Request.the-variants.{Broadcast}
 use Rattle.request.specs.Request.{unusedZero, commandOf, expressible}
-use Rattle.slave.specs.Slave.{Call, Outcome}
+use Rattle.slave.specs.Slave.{Call, netIn, Outcome}
 use Rattle.answers.specs.declared.Answer.the-variants.{Taken}
 use Rattle.slave.proofs.CaseLaws.{executed, broadcast-taken}
 use Rattle.master.specs.Build.{commandArea, netFor, telegramFor}
-use Rattle.claims_master.specs.Claims.{netCount, receiving, atNode, BroadcastRead}
-use Rattle.claims_master.proofs.SentLaws.{net-some, net-fits, own-count}
+use Rattle.claims_master.specs.Claims.{atNode, BroadcastRead}
+use Rattle.claims_master.proofs.SentLaws.{receiving, net-some, net-fits, own-count}
 
 -- the words of a command's area
 command-words : (t : List ℕ) (n selector mask1 mask2 : ℕ) → Wide n → mask2 < 65536 → Stands t 3 (fixedWords n (commandArea n selector mask1 mask2))
@@ -79,7 +79,7 @@ module _ (k : Call) (selector mask1 mask2 : ℕ) (process : Words) where
       → BroadcastRead (receiving k rx) selector mask1 mask2 process
   unfolding commandArea
   broadcast-read node c v m1 m2 g =
-      let n = netCount rx in
+      let n = netIn rx in
       let f = not-void-commands (commandOf selector mask1 mask2) (s .pkw) (s .pzd) (process .w1) v in
       let h : Headed a = record { pke-word = omega (arith, f .selects); ind-word = m1 } in
       let d : decodedOf rx ≡ BroadcastTelegram =

@@ -1,7 +1,8 @@
--- The telegrams of a set-up that may be used. Assumes nothing.
+-- The telegrams of a set-up that may be used, and a call that receives one. Assumes nothing.
 use mathlib.Core.Path.{_≡_, ap, _∙_}
 use mathlib.Core.Bool.{false}
-use Prim.Native.Nat.{ℕ, _+_, _-_, _≤_}
+use mathlib.Core.List.{List}
+use Prim.Native.Nat.{ℕ, _+_, _≤_}
 use native.Mathlib.Omega.{arith}
 use lib.ListN.{length}
 use Rattle.words.specs.declared.Words.{Words}
@@ -17,7 +18,19 @@ use Rattle.net.specs.Telegram.{telegramOf}
 use Rattle.net.proofs.NormalLaws.{length-normal}
 use Rattle.net.proofs.SealLaws.{length-telegram, telegram-decoded}
 use Rattle.master.specs.Build.{netFor}
-use Rattle.claims_master.specs.Claims.{netCount}
+use Rattle.slave.specs.Slave.{Call, netIn}
+
+-- the same call with other bytes received
+abbrev pub receiving : Call → List ℕ → Call
+receiving k rx = record {
+  setup = k .setup;
+  table = k .table;
+  memory = k .memory;
+  control = k .control;
+  status = k .status;
+  received = rx;
+  buffer = k .buffer;
+}
 
 module _ (s : Setup) (c : Configured s) (a : Area) (w : Words) where
   net-long : length (netFor s a w) ≡ netBytes s
@@ -30,13 +43,13 @@ module _ (s : Setup) (c : Configured s) (a : Area) (w : Words) where
   net-fits = omega (arith, net-long, area-few s c, c .process)
 
   -- they have the set-up's length
-  pub own-count : (adr : ℕ) → otherLength s (netCount (telegramOf adr (netFor s a w))) ≡ false
-  own-count adr = length-own s (netCount (telegramOf adr (netFor s a w))) (omega (arith, net-long, length-telegram adr (netFor s a w)))
+  pub own-count : (adr : ℕ) → otherLength s (netIn (telegramOf adr (netFor s a w))) ≡ false
+  own-count adr = length-own s (netIn (telegramOf adr (netFor s a w))) (omega (arith, net-long, length-telegram adr (netFor s a w)))
 
   -- to the set-up's node, a normal telegram
-  pub normal-decoded : decodedOf (telegramOf (s .node) (netFor s a w)) ≡ Normal (s .node) 3 (netCount (telegramOf (s .node) (netFor s a w)) + 3)
+  pub normal-decoded : decodedOf (telegramOf (s .node) (netFor s a w)) ≡ Normal (s .node) 3 (netIn (telegramOf (s .node) (netFor s a w)) + 3)
   normal-decoded =
       let t = telegramOf (s .node) (netFor s a w) in
-      let last : length (netFor s a w) + 3 ≡ netCount t + 3 = omega (arith, length-telegram (s .node) (netFor s a w)) in
+      let last : length (netFor s a w) + 3 ≡ netIn t + 3 = omega (arith, length-telegram (s .node) (netFor s a w)) in
       telegram-decoded (s .node) (netFor s a w) net-some net-fits ∙ ap (λ (x : Address). kindOf x (length (netFor s a w) + 3)) (to-one (s .node) (c .nodes))
       ∙ ap (λ (e : ℕ). Normal (s .node) 3 e) last

@@ -2,7 +2,7 @@
 use mathlib.Core.Path.{_≡_, refl, sym, ap, subst, _∙_}
 use mathlib.Core.Bool.{Bool, true, false, not, _&&_, cond}
 use mathlib.Core.List.{List}
-use Prim.Native.Nat.{ℕ, _+_, _-_, _*_, _/_, _%_, _^_, _≤_, _<_}
+use Prim.Native.Nat.{ℕ, _+_, _-_, _*_, _/_, _%_, _^_, _<_}
 use native.Mathlib.Omega.{arith}
 use borrow.Author.Tests.{eqb-false}
 use lib.Dec.{eqb}
@@ -23,12 +23,12 @@ use Rattle.opening.specs.Lent.{Memory}
 use Rattle.control.specs.Control.{firstWord, processIn, controlTaken}
 use Rattle.request.specs.declared.Request.the-variants.{Task}
 use Rattle.request.specs.Request.{unusedZero, taskFits, expressible}
-use Rattle.slave.specs.Slave.{Call, executeOf, normalOutcome}
+use Rattle.slave.specs.Slave.{Call, netIn, executeOf, normalOutcome}
 use Rattle.slave.specs.Perform.{replying, planIn, planAt, carriedOut, performOf, taskDone}
 use Rattle.slave.proofs.CaseLaws.{executed, normal-replied}
 use Rattle.master.specs.Build.{taskArea, netFor, telegramFor}
-use Rattle.claims_master.specs.Claims.{netCount, receiving, TaskRead}
-use Rattle.claims_master.proofs.SentLaws.{own-count, normal-decoded}
+use Rattle.claims_master.specs.Claims.{TaskRead}
+use Rattle.claims_master.proofs.SentLaws.{receiving, own-count, normal-decoded}
 use Rattle.claims_master.proofs.CarriedLaws.{CarriedTask, carried-of}
 
 -- an area of three or four words comes back
@@ -42,10 +42,10 @@ control-of true x y p q control h e = refl
 control-of false x y p q control h e = rw (h refl, e)
 
 -- a slave replies to a telegram that is decoded as normal with its node and its length
-pub normal-served : (k : Call) → decodedOf (k .received) ≡ Normal (k .setup .node) 3 (netCount (k .received) + 3) → otherLength (k .setup) (netCount (k .received)) ≡ false
-    → executeOf k ≡ normalOutcome (netCount (k .received)) k
+pub normal-served : (k : Call) → decodedOf (k .received) ≡ Normal (k .setup .node) 3 (netIn (k .received) + 3) → otherLength (k .setup) (netIn (k .received)) ≡ false
+    → executeOf k ≡ normalOutcome (netIn (k .received)) k
 normal-served k d own =
-    let n = netCount (k .received) in
+    let n = netIn (k .received) in
     let same : n + 3 - 3 ≡ n = omega arith in
     executed k (Normal (k .setup .node) 3 (n + 3)) d
     ∙ rw same (normal-replied (k .setup .node) n k (node-own (k .setup) (k .setup .node) refl) own)
@@ -83,7 +83,7 @@ module _ (k : Call) (id number index value : ℕ) (process : Words) where
   task-read : Configured s → CarriedTask s id number index value → Worded process → TaskRead (receiving k rx) id number index value process
   unfolding taskArea
   task-read c f g =
-      let n = netCount rx in
+      let n = netIn rx in
       let d = normal-decoded s c a process in
       let own = own-count s c a process (s .node) in
       let back : (s .pkw ≡ 0 → ⊥) → areaAt rx (s .pkw) ≡ a = λ p. normal-area s c a process (f .heads) g p (f .fits p) in

@@ -1,8 +1,7 @@
 -- What is claimed of telegrams that a master builds (document 01, Slave and Answer numbers), as a slave takes them: k is a call of
 -- the slave, with the telegram as its received bytes.
 --     SoundBuild s r ..     a build that succeeded left a telegram with a sound frame, and nothing else changed
---     netCount rx           the net bytes of a telegram: all but 02, LGE, ADR, BCC
---     receiving k rx        the same call with other bytes received
+--     countIn k             how many words the received parameter area has
 --     atNode node s         the same set-up at another node
 --     TaskRead k ..         the call reads its bytes as this task
 --     MirrorRead k net      the call answers its bytes, a mirror with these net bytes, with the telegram
@@ -23,7 +22,6 @@ use Rattle.frame.specs.declared.FrameCheck.the-variants.{Sound}
 use Rattle.frame.specs.declared.Decoded.the-variants.{Normal, Mirror as MirrorTelegram, Broadcast as BroadcastTelegram}
 use Rattle.setup.specs.declared.Setup.{Setup}
 use Rattle.setup.specs.SetupRules.{areaCount, otherLength}
-use Rattle.area.specs.declared.Area.{Area}
 use Rattle.area.specs.Read.{emptyArea, areaAt, firstWords, Worded}
 use Rattle.page.specs.Page.{fullNumber, named}
 use Rattle.broadcast.specs.Broadcast.{controlAfter}
@@ -31,7 +29,7 @@ use Rattle.control.specs.Control.{firstWord, processIn, controlTaken, commandIn
 use Rattle.request.specs.declared.Request.{Request}
 use Rattle.request.specs.declared.Request.the-variants.{Task, Mirror, Broadcast}
 use Rattle.request.specs.Request.{commandOf}
-use Rattle.slave.specs.Slave.{Call, taskAt, normalOutcome, mirrorOutcome, executeOf}
+use Rattle.slave.specs.Slave.{Call, netIn, taskAt, normalOutcome, mirrorOutcome, executeOf}
 use Rattle.slave.specs.Perform.{performOf}
 use Rattle.answers.specs.declared.Answer.the-variants.{Taken}
 use Rattle.master.specs.Build.{BuildOutcome, taskArea, telegramFor}
@@ -48,48 +46,32 @@ pub record SoundBuild (s : Setup) (r : Request) (net out : List ℕ) (o : BuildO
   pub behind : drop (o .built .length) (o .out) ≡ drop (o .built .length) out
   pub whole : length (o .out) ≡ length out
 
-abbrev pub netCount : List ℕ → ℕ
-netCount rx = length rx - 4
-
--- the same call with other bytes received
-abbrev pub receiving : Call → List ℕ → Call
-receiving k rx = record {
-  setup = k .setup;
-  table = k .table;
-  memory = k .memory;
-  control = k .control;
-  status = k .status;
-  received = rx;
-  buffer = k .buffer;
-}
-
 -- the same set-up at another node
 abbrev pub atNode : ℕ → Setup → Setup
 atNode node s = record { node = node; pkw = s .pkw; pzd = s .pzd }
 
--- how many words the area of the received telegram has
-abbrev pub wordsIn : Call → ℕ
-wordsIn k = areaCount (k .setup) (netCount (k .received))
+abbrev pub countIn : Call → ℕ
+countIn k = areaCount (k .setup) (netIn (k .received))
 
 pub record TaskRead (k : Call) (id number index value : ℕ) (process : Words) : Type 0 where
   -- a normal telegram of the slave's node and length
-  pub decoded : decodedOf (k .received) ≡ Normal (k .setup .node) 3 (netCount (k .received) + 3)
-  pub own-length : otherLength (k .setup) (netCount (k .received)) ≡ false
+  pub decoded : decodedOf (k .received) ≡ Normal (k .setup .node) 3 (netIn (k .received) + 3)
+  pub own-length : otherLength (k .setup) (netIn (k .received)) ≡ false
   -- the area that it reads, where there is one: task ID, number, index and value are those that were asked
-  pub area : (wordsIn k ≡ 0 → ⊥) → areaAt (k .received) (wordsIn k) ≡ taskArea id number index value
+  pub area : (countIn k ≡ 0 → ⊥) → areaAt (k .received) (countIn k) ≡ taskArea id number index value
   pub task-id : taskArea id number index value .pke / 4096 ≡ id
   pub number-is : fullNumber (taskArea id number index value .pke) (taskArea id number index value .ind) ≡ number
   pub names : named (taskArea id number index value .pke) ≡ true
   pub index-is : taskArea id number index value .ind % 256 ≡ index
   pub value-is : taskArea id number index value .value ≡ value
   -- the process words: the first PZD are those that were sent
-  pub process-is : (old : Words) → processIn (k .setup) (netCount (k .received)) old (k .received) ≡ firstWords (k .setup .pzd) process old
-  pub first : 0 < k .setup .pzd → firstWord (k .setup) (netCount (k .received)) (k .received) ≡ process .w1
+  pub process-is : (old : Words) → processIn (k .setup) (netIn (k .received)) old (k .received) ≡ firstWords (k .setup .pzd) process old
+  pub first : 0 < k .setup .pzd → firstWord (k .setup) (netIn (k .received)) (k .received) ≡ process .w1
   -- so no refusal comes: it performs the task that was asked, takes the process words and replies
-  pub served : executeOf k ≡ normalOutcome (netCount (k .received)) k
-  pub performed : taskAt (netCount (k .received)) k
-      ≡ cond (eqb (wordsIn k) 0) (record { area = emptyArea; memory = k .memory }) (performOf (wordsIn k) (k .table) (k .memory) (taskArea id number index value))
-  pub controlled : controlTaken (k .setup) (netCount (k .received)) (k .control) (k .received)
+  pub served : executeOf k ≡ normalOutcome (netIn (k .received)) k
+  pub performed : taskAt (netIn (k .received)) k
+      ≡ cond (eqb (countIn k) 0) (record { area = emptyArea; memory = k .memory }) (performOf (countIn k) (k .table) (k .memory) (taskArea id number index value))
+  pub controlled : controlTaken (k .setup) (netIn (k .received)) (k .control) (k .received)
       ≡ cond (not (eqb (k .setup .pzd) 0) && eqb (bit 10 (process .w1)) 1) (firstWords (k .setup .pzd) process (k .control)) (k .control)
 
 pub record MirrorRead (k : Call) (net : List ℕ) : Type 0 where
@@ -99,11 +81,11 @@ pub record MirrorRead (k : Call) (net : List ℕ) : Type 0 where
 
 pub record BroadcastRead (k : Call) (selector mask1 mask2 : ℕ) (process : Words) : Type 0 where
   pub decoded : decodedOf (k .received) ≡ BroadcastTelegram
-  pub own-length : otherLength (k .setup) (netCount (k .received)) ≡ false
-  pub command : commandIn (k .setup) (netCount (k .received)) (k .received) ≡ commandOf selector mask1 mask2
-  pub process-is : (old : Words) → processIn (k .setup) (netCount (k .received)) old (k .received) ≡ firstWords (k .setup .pzd) process old
-  pub first : firstWord (k .setup) (netCount (k .received)) (k .received) ≡ process .w1
-  pub not-void : voidIn (k .setup) (netCount (k .received)) (k .received) ≡ false
+  pub own-length : otherLength (k .setup) (netIn (k .received)) ≡ false
+  pub command : commandIn (k .setup) (netIn (k .received)) (k .received) ≡ commandOf selector mask1 mask2
+  pub process-is : (old : Words) → processIn (k .setup) (netIn (k .received)) old (k .received) ≡ firstWords (k .setup .pzd) process old
+  pub first : firstWord (k .setup) (netIn (k .received)) (k .received) ≡ process .w1
+  pub not-void : voidIn (k .setup) (netIn (k .received)) (k .received) ≡ false
   -- it takes the masked bits of the words that were sent, and replies nothing
   pub served : executeOf k
       ≡ record {

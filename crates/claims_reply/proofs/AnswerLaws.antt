@@ -1,7 +1,6 @@
 -- What a slave answers to a task that can be asked: a reply ID of the task's row or 7, and a value that fits. Assumes nothing.
-use mathlib.Core.Path.{_≡_, refl, sym, ap, _∙_}
+use mathlib.Core.Path.{_≡_, refl, sym}
 use mathlib.Core.Bool.{Bool, true, false, _&&_, false≢true}
-use mathlib.Core.List.{List}
 use Prim.Native.Nat.{ℕ, _+_, _/_, _≤_, _<_}
 use native.Mathlib.Omega.{arith}
 use borrow.Author.Tests.{eqb-true, eqb-false, leb-true, ne-eqb}
@@ -31,7 +30,7 @@ use Rattle.deed.proofs.DeedLaws.{deed-denied, deed-granted, element-there}
 use Rattle.request.specs.Request.{valueFits}
 use Rattle.slave.specs.Perform.{doneBy, foundOf, planOn, planIn, carriedOut, performOf}
 use Rattle.slave.proofs.PerformLaws.{named-found}
-use Rattle.claims_reply.proofs.SuitLaws.{Answers, error-answers, RowOf, task-row, Valued, done-answers}
+use Rattle.claims_reply.proofs.SuitLaws.{Answers, error-answers, RowOf, done-answers}
 
 -- ---- a task on a record of a table that passed
 

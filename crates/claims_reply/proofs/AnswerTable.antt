@@ -29,8 +29,8 @@ use Rattle.content.specs.declared.Question.{Question}
 use Rattle.content.specs.Content.{badReply, replyContent}
 use Rattle.reply.specs.declared.Reading.{Reading}
 use Rattle.reply.specs.Reply.{unreadOf, areaIn, processIn, readNormal, readDecoded, readTask, readOf}
-use Rattle.claims_master.specs.Claims.{netCount}
 use Rattle.claims_reply.specs.AnswerTable.{readingRows}
+use Rattle.slave.specs.Slave.{netIn}
 
 abbrev numberIn : Reading → ℕ
 numberIn r = readNumber (r .answer)
@@ -75,18 +75,18 @@ module _ (s : Setup) (q : Question) (rx : List ℕ) where
   afterFrame n =
       byLine (badAddress (adrOf rx)) (broadcastBit (adrOf rx)) (mirrorBit (adrOf rx)) (otherNode s (adrOf rx % 32)) (otherLength s n) (eqb (areaCount s n) 0) (bad n)
 
-  sound-number : ofDecoded (kindOf (addressOf (adrOf rx)) (lastOf rx)) ≡ afterFrame (netCount rx)
+  sound-number : ofDecoded (kindOf (addressOf (adrOf rx)) (lastOf rx)) ≡ afterFrame (netIn rx)
   unfolding addressOf
   sound-number =
-      let net : lastOf rx - 3 ≡ netCount rx = omega arith in
+      let net : lastOf rx - 3 ≡ netIn rx = omega arith in
       first-read (λ (a : Address). ofDecoded (kindOf a (lastOf rx))) (addressRows (adrOf rx)) (ToOne (adrOf rx % 32))
       ∙ rw (normal-number (adrOf rx % 32) (lastOf rx - 3), net)
-      (lines (badAddress (adrOf rx)) (broadcastBit (adrOf rx)) (mirrorBit (adrOf rx)) (otherNode s (adrOf rx % 32)) (otherLength s (netCount rx)) (eqb (areaCount s (netCount rx)) 0) (bad (netCount rx)))
+      (lines (badAddress (adrOf rx)) (broadcastBit (adrOf rx)) (mirrorBit (adrOf rx)) (otherNode s (adrOf rx % 32)) (otherLength s (netIn rx)) (eqb (areaCount s (netIn rx)) 0) (bad (netIn rx)))
 
   abbrev ofFrame : FrameCheck → ℕ
   ofFrame f = ofDecoded (decodedFrom f (adrOf rx))
 
-  task-number : numberIn (readTask s q rx) ≡ firstOf (frameNumbers rx) (afterFrame (netCount rx))
+  task-number : numberIn (readTask s q rx) ≡ firstOf (frameNumbers rx) (afterFrame (netIn rx))
   unfolding readTask frameOf
   task-number =
       first-read ofFrame (frameRows rx) (Sound (lastOf rx)) ∙ ap (λ (n : ℕ). firstOf (frameNumbers rx) n) sound-number

@@ -4,4 +4,5 @@ pub mod SuitLaws
 pub mod AnswerLaws
 pub mod ReplyIsRead
 pub mod RoundTrip
+pub mod KnownRound
 pub mod AnswerTable

@@ -11,7 +11,6 @@ use lib.ListN.{getD}
 use Rattle.rows.proofs.BoolLaws.{and-left}
 use Rattle.words.specs.declared.Words.{Words}
 use Rattle.setup.specs.declared.Setup.{Setup}
-use Rattle.setup.specs.SetupRules.{areaCount}
 use Rattle.setup.proofs.SetupLaws.{Configured, ok-configured, area-wide, area-sized, node-own}
 use Rattle.frame.specs.declared.Decoded.{Decoded}
 use Rattle.opening.specs.declared.Opening.the-variants.{Passed}
@@ -26,7 +25,7 @@ use Rattle.page.proofs.PageLaws.{id-back}
 use Rattle.request.specs.declared.Request.the-variants.{Task}
 use Rattle.request.specs.Request.{unusedZero, valueFits, taskFits, expressible}
 use Rattle.request.proofs.RequestLaws.{AllZero, Asked, task-asked}
-use Rattle.slave.specs.Slave.{Call, lentBy, openingAt, replyOf, replyAt}
+use Rattle.slave.specs.Slave.{Call, netIn, lentBy, openingAt, replyOf, replyAt}
 use Rattle.slave.specs.Perform.{Performed, planIn, performOf}
 use Rattle.master.specs.Build.{taskArea, netFor, telegramFor}
 use Rattle.answers.specs.declared.Content.the-variants.{Empty}
@@ -34,9 +33,9 @@ use Rattle.answers.specs.declared.ReadAnswer.the-variants.{Read}
 use Rattle.content.specs.declared.Question.{Question}
 use Rattle.content.specs.Content.{replyContent}
 use Rattle.reply.specs.Reply.{zeroWords, readNormal, readDecoded, readTask, readOf}
-use Rattle.claims_master.specs.Claims.{netCount, TaskRead}
+use Rattle.claims_master.specs.Claims.{TaskRead}
 use Rattle.claims_master.proofs.SentLaws.{own-count, normal-decoded}
-use Rattle.claims_master.proofs.CarriedLaws.{CarriedTask, carried-of}
+use Rattle.claims_master.proofs.CarriedLaws.{carried-of}
 use Rattle.claims_master.proofs.TaskIsRead.{normal-area, task-is-read}
 use Rattle.claims_reply.specs.Claims.{areaDone, ReplyRead}
 use Rattle.claims_reply.proofs.ReplyLaws.{Replies, Suits, empty-replies, suited-replies, reply-echoes}
@@ -50,7 +49,7 @@ module _ (s : Setup) (c : Configured s) (p : Area) (status : Words) (heads : Hea
   replyTelegram = telegramOf (s .node) (netFor s p status)
 
   abbrev n : ℕ
-  n = netCount replyTelegram
+  n = netIn replyTelegram
 
   read-is : readTask s q replyTelegram ≡ readNormal s q replyTelegram (s .node) n
   unfolding readTask
@@ -136,11 +135,11 @@ module _ (k : Call) (id number index value : ℕ) (process : Words) (net : List 
 
   reply-of-task : Configured (k .setup) → openingAt k ≡ Passed → taskFits (k .setup .pkw) id number index value ≡ true → value < 4294967296 → Worded (k .status)
       → ((i : ℕ) → getD (k .memory .values) i 0 < 4294967296) → TaskRead k id number index value process
-      → ReplyRead k (readTask (k .setup) (record { id = id; number = number; index = index }) (replyAt (netCount (k .received)) k))
+      → ReplyRead k (readTask (k .setup) (record { id = id; number = number; index = index }) (replyAt (netIn (k .received)) k))
   unfolding replyOf
   reply-of-task c passed fits v g small t = go (eqb (k .setup .pkw) 0) refl
     where
-      go : (b : Bool) → eqb (k .setup .pkw) 0 ≡ b → ReplyRead k (readTask (k .setup) (record { id = id; number = number; index = index }) (replyAt (netCount (k .received)) k))
+      go : (b : Bool) → eqb (k .setup .pkw) 0 ≡ b → ReplyRead k (readTask (k .setup) (record { id = id; number = number; index = index }) (replyAt (netIn (k .received)) k))
       go true e =
           let is : areaDone k ≡ emptyArea = ap (λ (x : Performed). x .area) (t .performed) ∙ ap (λ (b : Bool). cond b none did .area) e in
           let h : Headed emptyArea = record { pke-word = lit< tt; ind-word = lit< tt } in
@@ -161,7 +160,7 @@ module _ (k : Call) (id number index value : ℕ) (process : Words) (net : List 
 
   pub reply-is-read : openingAt k ≡ Passed → expressible (k .setup) (Task id number index value process) net ≡ true → value < 4294967296 → Worded process → Worded (k .status)
       → ((i : ℕ) → getD (k .memory .values) i 0 < 4294967296) → k .received ≡ telegramFor (k .setup) (Task id number index value process) net
-      → ReplyRead k (readOf (k .setup) (Task id number index value process) (replyAt (netCount (k .received)) k))
+      → ReplyRead k (readOf (k .setup) (Task id number index value process) (replyAt (netIn (k .received)) k))
   unfolding readOf expressible
   reply-is-read passed asked v w g small e =
       let ok = passed-opened (lentBy k) passed .setup-good in

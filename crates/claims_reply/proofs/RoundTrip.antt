@@ -10,22 +10,21 @@ use Rattle.area.specs.Read.{Worded}
 use Rattle.net.proofs.SealLaws.{written-first}
 use Rattle.request.specs.declared.Request.{Request}
 use Rattle.request.specs.declared.Request.the-variants.{Task}
-use Rattle.slave.specs.Slave.{Call, openingAt, replyAt, normalOutcome, callOf}
+use Rattle.slave.specs.Slave.{Call, netIn, openingAt, replyAt, normalOutcome, callOf}
 use Rattle.slave.proofs.CaseLaws.{called}
 use Rattle.answers.specs.declared.BuildAnswer.the-variants.{Done}
 use Rattle.master.specs.Build.{builtOf}
 use Rattle.master.proofs.BuildLaws.{done-buildable}
 use Rattle.reply.specs.Reply.{readOf}
-use Rattle.claims_master.specs.Claims.{netCount}
 use Rattle.claims_master.proofs.BuiltPasses.{built-passes}
 use Rattle.claims_master.proofs.BuiltIsRead.{built-is-read}
 use Rattle.claims_reply.specs.Claims.{ReplyRead, RoundMade}
 use Rattle.claims_reply.proofs.ReplyIsRead.{reply-is-read}
 
 -- a call that replied
-replied-so : (k : Call) (r : Request) → callOf k ≡ normalOutcome (netCount (k .received)) k → ReplyRead k (readOf (k .setup) r (replyAt (netCount (k .received)) k))
+replied-so : (k : Call) (r : Request) → callOf k ≡ normalOutcome (netIn (k .received)) k → ReplyRead k (readOf (k .setup) r (replyAt (netIn (k .received)) k))
     → RoundMade k r (callOf k)
-replied-so k r e h = rw e (record { replied = refl; read-is = rw (written-first (k .buffer) (replyAt (netCount (k .received)) k)) h })
+replied-so k r e h = rw e (record { replied = refl; read-is = rw (written-first (k .buffer) (replyAt (netIn (k .received)) k)) h })
 
 -- received are the bytes at the start of the buffer that the task was built into
 pub round-trip : (k : Call) (id number index value : ℕ) (process : Words) (net buffer : List ℕ) → builtOf (k .setup) (Task id number index value process) net buffer .built .answer ≡ Done

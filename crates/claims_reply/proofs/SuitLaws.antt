@@ -2,10 +2,8 @@
 use mathlib.Core.Path.{_≡_, refl, ap}
 use mathlib.Core.Logic.{_⊎_, inl, inr}
 use mathlib.Core.Bool.{Bool, true, false, not, _&&_, _||_, cond, false≢true}
-use mathlib.Core.List.{List}
 use Prim.Native.Nat.{ℕ, _+_, _-_, _/_, _%_, _^_, _≤_, _<_}
 use native.Mathlib.Omega.{arith}
-use native.Mathlib.Nat.{add-zero}
 use borrow.Author.Tests.{eq-eqb, eqb-false, le-ltb, not-true, ne-eqb}
 use lib.Dec.{eqb, ltb, lit≤}
 use lib.ListN.{getD}
@@ -24,7 +22,7 @@ use Rattle.task.specs.declared.ParameterError.{ParameterError}
 use Rattle.task.specs.declared.ParameterError.the-variants.{NoParameter, NotWritable, OutsideLimits, NoElement, NoArray, OtherWidth, NoRoom, NoTask}
 use Rattle.task.specs.Task.{tasks, taskOf, readReply, isDoubleId, carried}
 use Rattle.task.specs.Verdict.{errorNumber, movesValue}
-use Rattle.deed.specs.Deed.{replyArea, errorArea, taskIn, valueIn, elementIn, actDeed}
+use Rattle.deed.specs.Deed.{replyArea, errorArea, taskIn, elementIn, actDeed}
 use Rattle.request.specs.Request.{valueFits}
 use Rattle.slave.specs.Perform.{doneBy}
 use Rattle.content.specs.Content.{inRow, knownId}

@@ -15,7 +15,7 @@ use Rattle.request.specs.declared.Request.the-variants.{Task, Mirror, Broadcast
 use Rattle.request.specs.Request.{taskAskable}
 use Rattle.content.specs.Content.{badReply}
 use Rattle.reply.specs.Reply.{areaIn}
-use Rattle.claims_master.specs.Claims.{netCount}
+use Rattle.slave.specs.Slave.{netIn}
 
 abbrev pub asksTask : Setup → Request → Bool
 asksTask s (Task id number index value process) = taskAskable s id number index value process
@@ -40,7 +40,7 @@ readingRows s r rx =
     -- from another node
     ∷ (otherNode s (adrOf rx % 32), 16)
     -- n not 2 × (PKW + PZD)
-    ∷ (otherLength s (netCount rx), 17)
+    ∷ (otherLength s (netIn rx), 17)
     -- not the reply to the task
-    ∷ (otherReply s r (netCount rx) rx, 33)
+    ∷ (otherReply s r (netIn rx) rx, 33)
     ∷ []

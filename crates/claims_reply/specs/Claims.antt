@@ -8,15 +8,14 @@ use Prim.Native.Nat.{_/_}
 use Rattle.area.specs.declared.Area.{Area}
 use Rattle.area.specs.Read.{firstWords}
 use Rattle.request.specs.declared.Request.{Request}
-use Rattle.slave.specs.Slave.{Call, Outcome, sentBy, taskAt}
+use Rattle.slave.specs.Slave.{Call, netIn, Outcome, sentBy, taskAt}
 use Rattle.answers.specs.declared.Answer.the-variants.{Replied}
 use Rattle.answers.specs.ReadNumbers.{readNumber, readId, readValue}
 use Rattle.reply.specs.declared.Reading.{Reading}
 use Rattle.reply.specs.Reply.{zeroWords, readOf}
-use Rattle.claims_master.specs.Claims.{netCount}
 
 abbrev pub areaDone : Call → Area
-areaDone k = taskAt (netCount (k .received)) k .area
+areaDone k = taskAt (netIn (k .received)) k .area
 
 -- reply ID, value or error number, and status words
 pub record ReplyRead (k : Call) (r : Reading) : Type 0 where
