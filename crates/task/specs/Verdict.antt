@@ -63,11 +63,11 @@ differsWidth Either double = false
 differsWidth Word double = double
 differsWidth Double double = not double
 
--- a task whose index names an element, and not an array and index over 1
+-- the index names an element; not an array and index over 1
 abbrev pub lacksArray : Task → Entry → ℕ → Bool
 lacksArray k e index = k .array && (eqb (e .elements) 0 && ltb 1 index)
 
--- a task whose index names an element, and array and index not below its element count
+-- the index names an element; array and index not below its element count
 abbrev pub lacksElement : Task → Entry → ℕ → Bool
 lacksElement k e index = k .array && (not (eqb (e .elements) 0) && leb (e .elements) index)
 
