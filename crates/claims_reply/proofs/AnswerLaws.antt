@@ -24,13 +24,14 @@ use Rattle.task.specs.declared.ParameterError.the-variants.{NoParameter}
 use Rattle.task.specs.declared.Verdict.{Verdict}
 use Rattle.task.specs.declared.Verdict.the-variants.{Granted, Denied}
 use Rattle.task.specs.Verdict.{movesValue, lacksRoom}
+use Rattle.task.proofs.TaskLaws.{task-row}
 use Rattle.task.proofs.VerdictLaws.{granted-clear}
 use Rattle.deed.specs.Deed.{taskIn, indexIn, valueIn, elementIn, verdictIn, deedOn}
 use Rattle.deed.proofs.DeedLaws.{deed-denied, deed-granted, element-there}
 use Rattle.request.specs.Request.{valueFits}
 use Rattle.slave.specs.Perform.{doneBy, foundOf, planOn, planIn, carriedOut, performOf}
 use Rattle.slave.proofs.PerformLaws.{named-found}
-use Rattle.claims_reply.proofs.SuitLaws.{Answers, error-answers, RowOf, done-answers}
+use Rattle.claims_reply.proofs.SuitLaws.{Answers, error-answers, done-answers}
 
 -- ---- a task on a record of a table that passed
 
@@ -57,7 +58,7 @@ count-few e h = go (eqb (e .elements) 0) refl
     go false p = omega (arith, count-some e (eqb-false (e .elements) 0 p))
 
 module _ (l : Lent) (n : ℕ) (a : Area) (w : Wide n) (small : a .value < 4294967296) (values : (i : ℕ) → getD (l .memory .values) i 0 < 4294967296)
-    (row : RowOf (taskIn a .act) (taskIn a .width) (taskIn a .reply)) (fits : valueFits (taskIn a .act) (taskIn a .width) n (a .value) ≡ true) where
+    (fits : valueFits (taskIn a .act) (taskIn a .width) n (a .value) ≡ true) where
   on-answers : (j : ℕ) → InTable l j → Answers n a (doneBy (deedOn n a (entryAt (l .table) j)) (firstPlace (l .table) j) (l .memory) .area)
   on-answers j p = go (verdictIn n a (entryAt (l .table) j)) refl
     where
@@ -67,7 +68,7 @@ module _ (l : Lent) (n : ℕ) (a : Area) (w : Wide n) (small : a .value < 429496
           let i = elementIn a e in
           let x = getD (l .memory .values) (firstPlace (l .table) j + i) 0 in
           rw (deed-granted n a e g)
-          (done-answers n a e (l .memory) (firstPlace (l .table) j) w small (taskIn a .act) refl row fits
+          (done-answers n a e (l .memory) (firstPlace (l .table) j) w small (taskIn a .act) refl (task-row (a .pke / 4096)) fits
           (record {
             room = granted-room n a e g;
             whole = values (firstPlace (l .table) j + i);

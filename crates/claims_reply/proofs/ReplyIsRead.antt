@@ -39,7 +39,6 @@ use Rattle.claims_master.proofs.CarriedLaws.{carried-of}
 use Rattle.claims_master.proofs.TaskIsRead.{normal-area, task-is-read}
 use Rattle.claims_reply.specs.Claims.{areaDone, ReplyRead}
 use Rattle.claims_reply.proofs.ReplyLaws.{Replies, Suits, empty-replies, suited-replies, reply-echoes}
-use Rattle.claims_reply.proofs.SuitLaws.{RowOf, task-row}
 use Rattle.claims_reply.proofs.AnswerLaws.{task-answers}
 
 -- ---- the reading of a telegram of the set-up
@@ -110,9 +109,8 @@ module _ (k : Call) (id number index value : ℕ) (c : Configured (k .setup)) (p
   asked-replies some asked =
       let f = carried-of s id number index value c fits v in
       let back : a .pke / 4096 ≡ id = id-back id number in
-      let row = subst (λ (i : ℕ). RowOf (taskOf i .act) (taskOf i .width) (taskOf i .reply)) (sym back) (task-row id (f .id-few)) in
       let held = subst (λ (i : ℕ). valueFits (taskOf i .act) (taskOf i .width) (s .pkw) value ≡ true) (sym back) (asked .values) in
-      let r = task-answers (lentBy k) (s .pkw) a (area-wide s c some) v small row held passed (λ e. asked .some (sym back ∙ e)) in
+      let r = task-answers (lentBy k) (s .pkw) a (area-wide s c some) v small held passed (λ e. asked .some (sym back ∙ e)) in
       let is = r .is ∙ reply-echoes id number index value (r .reply-id) (r .content) (f .numbers) (f .indices) in
       rw is (suited-replies (s .pkw) id number index (r .reply-id) (r .content) (asked .some) (f .numbers) (f .indices) (subst (λ (i : ℕ). Suits (s .pkw) i (r .reply-id) (r .content)) back (r .suits)))
 

@@ -1,7 +1,7 @@
 -- Reply IDs and values that suit a task, and what an act answers where no error applies. Assumes nothing.
 use mathlib.Core.Path.{_≡_, refl, ap}
-use mathlib.Core.Logic.{_⊎_, inl, inr}
-use mathlib.Core.Bool.{Bool, true, false, not, _&&_, _||_, cond, false≢true}
+use mathlib.Core.Logic.{inl, inr}
+use mathlib.Core.Bool.{Bool, true, false, not, _&&_, _||_, false≢true}
 use Prim.Native.Nat.{ℕ, _+_, _-_, _/_, _%_, _^_, _≤_, _<_}
 use native.Mathlib.Omega.{arith}
 use borrow.Author.Tests.{eq-eqb, eqb-false, le-ltb, not-true, ne-eqb}
@@ -9,7 +9,6 @@ use lib.Dec.{eqb, ltb, lit≤}
 use lib.ListN.{getD}
 use Rattle.setup.proofs.SetupLaws.{Wide}
 use Rattle.rows.proofs.BoolLaws.{or-first, or-second}
-use Rattle.rows.proofs.RangeLaws.{between}
 use Rattle.area.specs.declared.Area.{Area}
 use Rattle.entry.specs.declared.Entry.{Entry}
 use Rattle.entry.specs.Fields.{countOf}
@@ -19,9 +18,10 @@ use Rattle.task.specs.declared.Act.the-variants.{Nothing, Read, Change, Count, 
 use Rattle.task.specs.declared.Width.{Width}
 use Rattle.task.specs.declared.Width.the-variants.{Either, Word, Double}
 use Rattle.task.specs.declared.ParameterError.{ParameterError}
-use Rattle.task.specs.declared.ParameterError.the-variants.{NoParameter, NotWritable, OutsideLimits, NoElement, NoArray, OtherWidth, NoRoom, NoTask}
-use Rattle.task.specs.Task.{tasks, taskOf, readReply, isDoubleId, carried}
+use Rattle.task.specs.Task.{taskOf, readReply, isDoubleId, carried}
 use Rattle.task.specs.Verdict.{errorNumber, movesValue}
+use Rattle.task.proofs.TaskLaws.{IdOf, RowOf, id-width, read-id}
+use Rattle.deed.proofs.ReplyLaws.{error-small}
 use Rattle.deed.specs.Deed.{replyArea, errorArea, taskIn, elementIn, actDeed}
 use Rattle.request.specs.Request.{valueFits}
 use Rattle.slave.specs.Perform.{doneBy}
@@ -59,57 +59,21 @@ id-answers n a replyId v double w known id f =
     go true f = (ne-eqb n 3 (f .0), refl, value-fits n v w (λ e. absurd (f .0 e)) (f .1))
     go false f = (refl, le-ltb 65535 v f, value-fits n v w (λ e. omega arith) (omega arith))
 
-error-small : (error : ParameterError) → errorNumber error ≤ 65535
-error-small NoParameter = lit≤ tt
-error-small NotWritable = lit≤ tt
-error-small OutsideLimits = lit≤ tt
-error-small NoElement = lit≤ tt
-error-small NoArray = lit≤ tt
-error-small OtherWidth = lit≤ tt
-error-small NoRoom = lit≤ tt
-error-small NoTask = lit≤ tt
-
 error-known : (id : ℕ) → knownId id 7 ≡ true
 unfolding knownId
 error-known id = or-second (inRow (taskOf id .act) (taskOf id .reply) 7) true refl
 
 pub error-answers : (n : ℕ) (a : Area) (error : ParameterError) → Wide n → Answers n a (errorArea a error)
-error-answers n a error w = id-answers n a 7 (errorNumber error) false w (error-known (a .pke / 4096)) (refl, lit≤ tt) (error-small error)
+error-answers n a error w = id-answers n a 7 (errorNumber error) false w (error-known (a .pke / 4096)) (refl, lit≤ tt) (omega (arith, error-small error))
 
--- ---- the reply IDs of the table
-
--- 1 or 4 for words, 2 or 5 for doubles, 6 for the number of elements
-abbrev pub IdOf : Bool → ℕ → Type 0
-IdOf double reply = (reply ≡ cond double 2 1) ⊎ (reply ≡ cond double 5 4)
-
-abbrev pub RowOf : Act → Width → ℕ → Type 0
-RowOf Nothing width reply = Unit {0}
-RowOf Read width reply = IdOf false reply
-RowOf Change Either reply = Unit {0}
-RowOf Change Word reply = IdOf false reply
-RowOf Change Double reply = IdOf true reply
-RowOf Count width reply = reply ≡ 6
-RowOf Refuse width reply = Unit {0}
-
-id-width : (double : Bool) (reply : ℕ) → IdOf double reply → (isDoubleId reply ≡ double) × (reply ≤ 7)
-id-width true reply (inl e) = (ap isDoubleId e, omega arith)
-id-width true reply (inr e) = (ap isDoubleId e, omega arith)
-id-width false reply (inl e) = (ap isDoubleId e, omega arith)
-id-width false reply (inr e) = (ap isDoubleId e, omega arith)
-
--- a double is read under the next ID
-read-id : (double : Bool) (reply : ℕ) → IdOf false reply → IdOf double (readReply reply double)
-read-id true reply (inl e) = inl (omega arith)
-read-id true reply (inr e) = inr (omega arith)
-read-id false reply (inl e) = inl (omega arith)
-read-id false reply (inr e) = inr (omega arith)
-
-pub task-row : (id : ℕ) → id < 15 → RowOf (taskOf id .act) (taskOf id .width) (taskOf id .reply)
-unfolding taskOf tasks
-task-row id h =
-    between (λ k. RowOf (taskOf k .act) (taskOf k .width) (taskOf k .reply)) 15 0
-    (tt, (inl refl, (inl refl, (inl refl, (tt, (tt, (inr refl, (inr refl, (inr refl, (refl, (tt, (inr refl, (inr refl, (inl refl, (inl refl, tt)))))))))))))))
-    id (omega arith) h
+id-small : (double : Bool) (reply : ℕ) → IdOf double reply → (isDoubleId reply ≡ double) × (reply ≤ 7)
+id-small double reply e = (id-width double reply e, few double e)
+  where
+    few : (d : Bool) → IdOf d reply → reply ≤ 7
+    few true (inl e) = omega arith
+    few true (inr e) = omega arith
+    few false (inl e) = omega arith
+    few false (inr e) = omega arith
 
 -- ---- a granted task
 
@@ -130,7 +94,7 @@ module _ (n : ℕ) (a : Area) (e : Entry) (m : Memory) (first : ℕ) (w : Wide n
       → Answers n a (replyArea a (readReply (taskIn a .reply) double) x)
   read-answers double x q r f =
       let reply = taskIn a .reply in
-      id-answers n a (readReply reply double) x double w (row-known Read (readReply reply double) q (in-row double)) (id-width double (readReply reply double) (read-id double reply r)) f
+      id-answers n a (readReply reply double) x double w (row-known Read (readReply reply double) q (in-row double)) (id-small double (readReply reply double) (read-id reply double r)) f
     where
       in-row : (d : Bool) → inRow Read (taskIn a .reply) (readReply (taskIn a .reply) d) ≡ true
       in-row true = or-second (eqb (readReply (taskIn a .reply) true) (readReply (taskIn a .reply) false)) _ (eq-eqb (readReply (taskIn a .reply) true) (readReply (taskIn a .reply) true) refl)
@@ -141,9 +105,9 @@ module _ (n : ℕ) (a : Area) (e : Entry) (m : Memory) (first : ℕ) (w : Wide n
   unfolding valueFits
   change-answers Either q r v = absurd (false≢true v)
   change-answers Word q r v =
-      id-answers n a (taskIn a .reply) (a .value % 65536) false w (row-known Change (taskIn a .reply) q (eq-eqb (taskIn a .reply) (taskIn a .reply) refl)) (id-width false (taskIn a .reply) r) (omega arith)
+      id-answers n a (taskIn a .reply) (a .value % 65536) false w (row-known Change (taskIn a .reply) q (eq-eqb (taskIn a .reply) (taskIn a .reply) refl)) (id-small false (taskIn a .reply) r) (omega arith)
   change-answers Double q r v =
-      id-answers n a (taskIn a .reply) (a .value) true w (row-known Change (taskIn a .reply) q (eq-eqb (taskIn a .reply) (taskIn a .reply) refl)) (id-width true (taskIn a .reply) r) (eqb-false n 3 (not-true (eqb n 3) v), small)
+      id-answers n a (taskIn a .reply) (a .value) true w (row-known Change (taskIn a .reply) q (eq-eqb (taskIn a .reply) (taskIn a .reply) refl)) (id-small true (taskIn a .reply) r) (eqb-false n 3 (not-true (eqb n 3) v), small)
 
   -- what an act that can be asked does where no error applies
   pub done-answers : (act : Act) → taskIn a .act ≡ act → RowOf act (taskIn a .width) (taskIn a .reply) → valueFits act (taskIn a .width) n (a .value) ≡ true
