@@ -2,6 +2,7 @@
 pub mod ReplyLaws
 pub mod SuitLaws
 pub mod AnswerLaws
+pub mod ReadingLaws
 pub mod ReplyIsRead
 pub mod RoundTrip
 pub mod KnownRound

@@ -3,23 +3,20 @@ use mathlib.Core.Path.{_≡_, refl, sym, ap, subst, _∙_}
 use mathlib.Core.Logic.{_⊎_, inl, inr}
 use mathlib.Core.Bool.{Bool, true, false, cond}
 use mathlib.Core.List.{List}
-use Prim.Native.Nat.{ℕ, _+_, _-_, _/_, _<_}
+use Prim.Native.Nat.{ℕ, _/_, _<_}
 use native.Mathlib.Omega.{arith}
-use borrow.Author.Tests.{eq-eqb, ne-eqb, eqb-true, eqb-false}
+use borrow.Author.Tests.{eqb-true, eqb-false}
 use lib.Dec.{eqb, lit<}
 use lib.ListN.{getD}
 use Rattle.rows.proofs.BoolLaws.{and-left}
 use Rattle.words.specs.declared.Words.{Words}
 use Rattle.setup.specs.declared.Setup.{Setup}
-use Rattle.setup.proofs.SetupLaws.{Configured, ok-configured, area-wide, area-sized, node-own}
-use Rattle.frame.specs.declared.Decoded.{Decoded}
+use Rattle.setup.proofs.SetupLaws.{Configured, ok-configured, area-wide}
 use Rattle.opening.specs.declared.Opening.the-variants.{Passed}
 use Rattle.opening.proofs.AnswersLaws.{passed-opened}
 use Rattle.area.specs.declared.Area.{Area}
-use Rattle.area.specs.Read.{emptyArea, Worded, firstWords}
+use Rattle.area.specs.Read.{emptyArea, Worded}
 use Rattle.area.proofs.WordLaws.{Headed}
-use Rattle.net.specs.Telegram.{telegramOf}
-use Rattle.net.proofs.ReadLaws.{process-back}
 use Rattle.task.specs.Task.{taskOf}
 use Rattle.page.proofs.PageLaws.{id-back}
 use Rattle.request.specs.declared.Request.the-variants.{Task}
@@ -27,61 +24,19 @@ use Rattle.request.specs.Request.{unusedZero, valueFits, taskFits, expressible}
 use Rattle.request.proofs.RequestLaws.{AllZero, Asked, task-asked}
 use Rattle.slave.specs.Slave.{Call, netIn, lentBy, openingAt, replyOf, replyAt}
 use Rattle.slave.specs.Perform.{Performed, planIn, performOf}
-use Rattle.master.specs.Build.{taskArea, netFor, telegramFor}
-use Rattle.answers.specs.declared.Content.the-variants.{Empty}
-use Rattle.answers.specs.declared.ReadAnswer.the-variants.{Read}
+use Rattle.master.specs.Build.{taskArea, telegramFor}
 use Rattle.content.specs.declared.Question.{Question}
-use Rattle.content.specs.Content.{replyContent}
-use Rattle.reply.specs.Reply.{zeroWords, readNormal, readDecoded, readTask, readOf}
+use Rattle.reply.specs.Reply.{readTask, readOf}
 use Rattle.claims_master.specs.Claims.{TaskRead}
-use Rattle.claims_master.proofs.SentLaws.{own-count, normal-decoded}
 use Rattle.claims_master.proofs.CarriedLaws.{carried-of}
-use Rattle.claims_master.proofs.TaskIsRead.{normal-area, task-is-read}
+use Rattle.claims_master.proofs.TaskIsRead.{task-is-read}
 use Rattle.claims_reply.specs.Claims.{areaDone, ReplyRead}
+use Rattle.claims_reply.proofs.ReadingLaws.{read-none, read-area}
 use Rattle.claims_reply.proofs.ReplyLaws.{Replies, Suits, empty-replies, suited-replies, reply-echoes}
 use Rattle.claims_reply.proofs.AnswerLaws.{task-answers}
 
--- ---- the reading of a telegram of the set-up
-
-module _ (s : Setup) (c : Configured s) (p : Area) (status : Words) (heads : Headed p) (words : Worded status) (q : Question) where
-  abbrev replyTelegram : List ℕ
-  replyTelegram = telegramOf (s .node) (netFor s p status)
-
-  abbrev n : ℕ
-  n = netIn replyTelegram
-
-  read-is : readTask s q replyTelegram ≡ readNormal s q replyTelegram (s .node) n
-  unfolding readTask
-  read-is =
-      let same : n + 3 - 3 ≡ n = omega arith in
-      ap (λ (d : Decoded). readDecoded d s q replyTelegram) (normal-decoded s c p status) ∙ ap (λ (m : ℕ). readNormal s q replyTelegram (s .node) m) same
-
-  -- without an area
-  read-none : s .pkw ≡ 0 → readTask s q replyTelegram ≡ record { answer = Read Empty; process = firstWords (s .pzd) status zeroWords }
-  unfolding readNormal
-  read-none e =
-      read-is
-      ∙ rw (
-        node-own s (s .node) refl,
-        own-count s c p status (s .node),
-        eq-eqb (s .pkw) 0 e,
-        process-back (s .node) p (s .pkw) status (s .pzd) heads words zeroWords (area-sized s c) (c .process),
-      )
-
-  -- with an area that is a reply to the task
-  read-area : (s .pkw ≡ 0 → ⊥) → Replies (s .pkw) q p
-      → readTask s q replyTelegram ≡ record { answer = Read (replyContent (q .id) p); process = firstWords (s .pzd) status zeroWords }
-  unfolding readNormal
-  read-area some r =
-      read-is
-      ∙ rw (
-        node-own s (s .node) refl,
-        own-count s c p status (s .node),
-        ne-eqb (s .pkw) 0 some,
-        normal-area s c p status heads words some (r .fits),
-        r .good,
-        process-back (s .node) p (s .pkw) status (s .pzd) heads words zeroWords (area-sized s c) (c .process),
-      )
+abbrev asking : ℕ → ℕ → ℕ → Question
+asking id number index = record { id = id; number = number; index = index }
 
 -- ---- what the slave answers to the task
 
@@ -94,7 +49,7 @@ module _ (k : Call) (id number index value : ℕ) (c : Configured (k .setup)) (p
   a = taskArea id number index value
 
   abbrev q : Question
-  q = record { id = id; number = number; index = index }
+  q = asking id number index
 
   abbrev done : Area
   done = performOf (s .pkw) (k .table) (k .memory) a .area
@@ -133,21 +88,21 @@ module _ (k : Call) (id number index value : ℕ) (process : Words) (net : List 
 
   reply-of-task : Configured (k .setup) → openingAt k ≡ Passed → taskFits (k .setup .pkw) id number index value ≡ true → value < 4294967296 → Worded (k .status)
       → ((i : ℕ) → getD (k .memory .values) i 0 < 4294967296) → TaskRead k id number index value process
-      → ReplyRead k (readTask (k .setup) (record { id = id; number = number; index = index }) (replyAt (netIn (k .received)) k))
+      → ReplyRead k (readTask (k .setup) (asking id number index) (replyAt (netIn (k .received)) k))
   unfolding replyOf
   reply-of-task c passed fits v g small t = go (eqb (k .setup .pkw) 0) refl
     where
-      go : (b : Bool) → eqb (k .setup .pkw) 0 ≡ b → ReplyRead k (readTask (k .setup) (record { id = id; number = number; index = index }) (replyAt (netIn (k .received)) k))
+      go : (b : Bool) → eqb (k .setup .pkw) 0 ≡ b → ReplyRead k (readTask (k .setup) (asking id number index) (replyAt (netIn (k .received)) k))
       go true e =
           let is : areaDone k ≡ emptyArea = ap (λ (x : Performed). x .area) (t .performed) ∙ ap (λ (b : Bool). cond b none did .area) e in
           let h : Headed emptyArea = record { pke-word = lit< tt; ind-word = lit< tt } in
-          let read = read-none (k .setup) c emptyArea (k .status) h g (record { id = id; number = number; index = index }) (eqb-true (k .setup .pkw) 0 e) in
+          let read = read-none (k .setup) c emptyArea (k .status) h g (asking id number index) (eqb-true (k .setup .pkw) 0 e) in
           rw (is, read) (record { number-is = refl; id-is = ap (λ (x : Area). x .pke / 4096) (sym is); value-is = ap (λ (x : Area). x .value) (sym is); process-is = refl; not-8 = λ z. omega arith })
       go false e =
           let some = eqb-false (k .setup .pkw) 0 e in
           let is : areaDone k ≡ did .area = ap (λ (x : Performed). x .area) (t .performed) ∙ ap (λ (b : Bool). cond b none did .area) e in
           let r = performed-replies k id number index value c passed fits v small some in
-          let read = read-area (k .setup) c (did .area) (k .status) (r .heads) g (record { id = id; number = number; index = index }) some r in
+          let read = read-area (k .setup) c (did .area) (k .status) (r .heads) g (asking id number index) some r in
           rw (is, read) (record {
             number-is = refl;
             id-is = r .same-id ∙ ap (λ (x : Area). x .pke / 4096) (sym is);
