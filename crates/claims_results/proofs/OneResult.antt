@@ -1,20 +1,28 @@
--- Any two outcomes that the contract of a public function allows are equal: the result, and each lent buffer afterwards.
--- `F.Post` is the contract of F as its source states it. Assumes nothing.
-use Prim.Native.Nat.{ℕ}
-use mathlib.Core.Path.{_≡_, sym, _∙_}
-use mathlib.Core.List.{List}
+-- Any two outcomes that the contract of a public function allows are equal: the result, and each lent slice afterwards. An instance is
+-- named after crate, function and, for a slice, its parameter; a function for C stands without its crate. `F.Post` is the contract of
+-- F as its source states it. Assumes nothing.
+use mathlib.Core.Path.{_≡_, sym, ap, _∙_}
 use denote.Ref.{now}
+use Rattle.opening.specs.Lent.{Memory}
 use Rattle.words.proofs.join.Reads as words-join
 use Rattle.words.proofs.join_double.Reads as words-join-double
 use Rattle.store.proofs.has_room.Reads as store-has-room
+use Rattle.store.proofs.put.Reads as store-put
 use Rattle.bcc.proofs.bcc.Reads as bcc-bcc
 use Rattle.frame.proofs.check.Reads as frame-check
 use Rattle.frame.proofs.read_address.Reads as frame-read-address
 use Rattle.frame.proofs.decode.Reads as frame-decode
 use Rattle.frame.proofs.number_frame_fault.Reads as frame-number-frame-fault
 use Rattle.frame.proofs.number_fault.Reads as frame-number-fault
+use Rattle.answers.proofs.number_opening.Reads as answers-number-opening
+use Rattle.answers.proofs.number_answer.Reads as answers-number-answer
+use Rattle.answers.proofs.number_built.Reads as answers-number-built
+use Rattle.answers.proofs.number_read_fault.Reads as answers-number-read-fault
+use Rattle.answers.proofs.content_id.Reads as answers-content-id
+use Rattle.answers.proofs.content_value.Reads as answers-content-value
 use Rattle.setup.proofs.setup_ok.Reads as setup-setup-ok
-use Rattle.setup.proofs.net_bytes.Reads as setup-net-bytes
+use Rattle.setup.proofs.area_count.Reads as setup-area-count
+use Rattle.setup.proofs.is_other_length.Reads as setup-is-other-length
 use Rattle.entry.proofs.entry_of.Reads as entry-entry-of
 use Rattle.entry.proofs.count_places.Reads as entry-count-places
 use Rattle.entry.proofs.at_most.Reads as entry-at-most
@@ -26,30 +34,40 @@ use Rattle.opening.proofs.«open».Reads as opening-open
 use Rattle.area.proofs.empty_area.Reads as area-empty-area
 use Rattle.area.proofs.read_area.Reads as area-read-area
 use Rattle.area.proofs.read_process.Reads as area-read-process
-use Rattle.task.proofs.task_of.Reads as task-task-of
+use Rattle.net.proofs.seal.Reads as net-seal
+use Rattle.net.proofs.write_normal.Reads as net-write-normal
 use Rattle.page.proofs.page_of.Reads as page-page-of
 use Rattle.page.proofs.nibble_of.Reads as page-nibble-of
 use Rattle.page.proofs.full_number.Reads as page-full-number
+use Rattle.task.proofs.task_of.Reads as task-task-of
 use Rattle.task.proofs.number_error.Reads as task-number-error
 use Rattle.task.proofs.judge.Reads as task-judge
 use Rattle.task.proofs.pick_element.Reads as task-pick-element
+use Rattle.deed.proofs.deny.Reads as deed-deny
+use Rattle.deed.proofs.plan.Reads as deed-plan
 use Rattle.broadcast.proofs.is_void.Reads as broadcast-is-void
 use Rattle.broadcast.proofs.merge.Reads as broadcast-merge
 use Rattle.broadcast.proofs.command_control.Reads as broadcast-command-control
+use Rattle.control.proofs.take_control.Reads as control-take-control
+use Rattle.control.proofs.take_command.Reads as control-take-command
+use Rattle.slave.proofs.serve.Reads as slave-serve
 use Rattle.request.proofs.can_ask.Reads as request-can-ask
 use Rattle.request.proofs.can_express.Reads as request-can-express
-use Rattle.reply.proofs.read.Reads as reply-read
-use Rattle.text.proofs.count_digits.Reads as text-count-digits
-use Rattle.store.proofs.put.Reads as store-put
-use Rattle.net.proofs.seal.Reads as net-seal
-use Rattle.net.proofs.write_normal.Reads as net-write-normal
-use Rattle.text.proofs.put_number.Reads as text-put-number
-use Rattle.listing.proofs.list.Reads as listing-list
-use Rattle.slave.proofs.serve.Reads as slave-serve
 use Rattle.master.proofs.build_task.Reads as master-build-task
 use Rattle.master.proofs.build_mirror.Reads as master-build-mirror
 use Rattle.master.proofs.build_broadcast.Reads as master-build-broadcast
 use Rattle.master.proofs.build.Reads as master-build
+use Rattle.content.proofs.is_bad.Reads as content-is-bad
+use Rattle.content.proofs.read_content.Reads as content-read-content
+use Rattle.reply.proofs.read.Reads as reply-read
+use Rattle.host_slave.proofs.serve.Reads as host-slave-serve
+use Rattle.host_master.proofs.build_task.Reads as host-master-build-task
+use Rattle.host_master.proofs.build_mirror.Reads as host-master-build-mirror
+use Rattle.host_master.proofs.build_broadcast.Reads as host-master-build-broadcast
+use Rattle.host_reply.proofs.read_reply.Reads as host-reply-read-reply
+use Rattle.text.proofs.count_digits.Reads as text-count-digits
+use Rattle.text.proofs.put_number.Reads as text-put-number
+use Rattle.listing.proofs.list.Reads as listing-list
 use Rattle.uss_c.proofs.uss_slave.Reads as uss-slave
 use Rattle.uss_c.proofs.uss_build_task.Reads as uss-build-task
 use Rattle.uss_c.proofs.uss_build_mirror.Reads as uss-build-mirror
@@ -57,9 +75,6 @@ use Rattle.uss_c.proofs.uss_build_broadcast.Reads as uss-build-broadcast
 use Rattle.uss_c.proofs.uss_read_reply.Reads as uss-read-reply
 use Rattle.uss_c.proofs.uss_list.Reads as uss-list
 use Rattle.uss_c.proofs.uss_bcc.Reads as uss-bcc
-use Rattle.master.specs.Build.{BuildOutcome}
-use Rattle.uss_c.specs.declared.UssBuilt.{UssBuilt}
-use Rattle.uss_c.specs.Host.{BuildLeaves}
 use Rattle.claims_results.specs.OneResult.{OneResult, OneExit}
 
 -- what is equal to the same definition is equal
@@ -93,11 +108,32 @@ frame-number-frame-fault-one κs a r r′ s s′ = equal-through
 pub frame-number-fault-one : OneResult frame-number-fault.Post
 frame-number-fault-one κs a r r′ s s′ = equal-through
 
+pub answers-number-opening-one : OneResult answers-number-opening.Post
+answers-number-opening-one κs a r r′ s s′ = equal-through
+
+pub answers-number-answer-one : OneResult answers-number-answer.Post
+answers-number-answer-one κs a r r′ s s′ = equal-through
+
+pub answers-number-built-one : OneResult answers-number-built.Post
+answers-number-built-one κs a r r′ s s′ = equal-through
+
+pub answers-number-read-fault-one : OneResult answers-number-read-fault.Post
+answers-number-read-fault-one κs a r r′ s s′ = equal-through
+
+pub answers-content-id-one : OneResult answers-content-id.Post
+answers-content-id-one κs a r r′ s s′ = equal-through
+
+pub answers-content-value-one : OneResult answers-content-value.Post
+answers-content-value-one κs a r r′ s s′ = equal-through
+
 pub setup-setup-ok-one : OneResult setup-setup-ok.Post
 setup-setup-ok-one κs a r r′ s s′ = equal-through
 
-pub setup-net-bytes-one : OneResult setup-net-bytes.Post
-setup-net-bytes-one κs a r r′ s s′ = equal-through
+pub setup-area-count-one : OneResult setup-area-count.Post
+setup-area-count-one κs a r r′ s s′ = equal-through
+
+pub setup-is-other-length-one : OneResult setup-is-other-length.Post
+setup-is-other-length-one κs a r r′ s s′ = equal-through
 
 pub entry-entry-of-one : OneResult entry-entry-of.Post
 entry-entry-of-one κs a r r′ s s′ = equal-through
@@ -132,9 +168,6 @@ area-read-area-one κs a r r′ s s′ = equal-through
 pub area-read-process-one : OneResult area-read-process.Post
 area-read-process-one κs a r r′ s s′ = equal-through
 
-pub task-task-of-one : OneResult task-task-of.Post
-task-task-of-one κs a r r′ s s′ = equal-through
-
 pub page-page-of-one : OneResult page-page-of.Post
 page-page-of-one κs a r r′ s s′ = equal-through
 
@@ -143,6 +176,9 @@ page-nibble-of-one κs a r r′ s s′ = equal-through
 
 pub page-full-number-one : OneResult page-full-number.Post
 page-full-number-one κs a r r′ s s′ = equal-through
+
+pub task-task-of-one : OneResult task-task-of.Post
+task-task-of-one κs a r r′ s s′ = equal-through
 
 pub task-number-error-one : OneResult task-number-error.Post
 task-number-error-one κs a r r′ s s′ = equal-through
@@ -153,6 +189,12 @@ task-judge-one κs a r r′ s s′ = equal-through
 pub task-pick-element-one : OneResult task-pick-element.Post
 task-pick-element-one κs a r r′ s s′ = equal-through
 
+pub deed-deny-one : OneResult deed-deny.Post
+deed-deny-one κs a r r′ s s′ = equal-through
+
+pub deed-plan-one : OneResult deed-plan.Post
+deed-plan-one κs a r r′ s s′ = equal-through
+
 pub broadcast-is-void-one : OneResult broadcast-is-void.Post
 broadcast-is-void-one κs a r r′ s s′ = equal-through
 
@@ -162,19 +204,35 @@ broadcast-merge-one κs a r r′ s s′ = equal-through
 pub broadcast-command-control-one : OneResult broadcast-command-control.Post
 broadcast-command-control-one κs a r r′ s s′ = equal-through
 
+pub control-take-control-one : OneResult control-take-control.Post
+control-take-control-one κs a r r′ s s′ = equal-through
+
+pub control-take-command-one : OneResult control-take-command.Post
+control-take-command-one κs a r r′ s s′ = equal-through
+
 pub request-can-ask-one : OneResult request-can-ask.Post
 request-can-ask-one κs a r r′ s s′ = equal-through
 
 pub request-can-express-one : OneResult request-can-express.Post
 request-can-express-one κs a r r′ s s′ = equal-through
 
+pub content-is-bad-one : OneResult content-is-bad.Post
+content-is-bad-one κs a r r′ s s′ = equal-through
+
+pub content-read-content-one : OneResult content-read-content.Post
+content-read-content-one κs a r r′ s s′ = equal-through
+
 pub reply-read-one : OneResult reply-read.Post
 reply-read-one κs a r r′ s s′ = equal-through
+
+pub host-reply-read-reply-one : OneResult host-reply-read-reply.Post
+host-reply-read-reply-one κs a r r′ s s′ = equal-through
 
 pub text-count-digits-one : OneResult text-count-digits.Post
 text-count-digits-one κs a r r′ s s′ = equal-through
 
--- result and buffer
+-- ---- a result, and what is written
+
 pub store-put-one : OneResult store-put.Post
 store-put-one κs a r r′ s s′ p p′ = equal-through (p .0) (p′ .0)
 
@@ -193,29 +251,15 @@ net-write-normal-one κs a r r′ s s′ p p′ = equal-through (p .0) (p′ .0)
 pub net-write-normal-out : OneExit net-write-normal.Post (λ κs s. now (s .0))
 net-write-normal-out κs a r r′ s s′ p p′ = equal-through (p .1) (p′ .1)
 
-pub text-put-number-one : OneResult text-put-number.Post
-text-put-number-one κs a r r′ s s′ p p′ = equal-through (p .0) (p′ .0)
-
-pub text-put-number-out : OneExit text-put-number.Post (λ κs s. now (s .0))
-text-put-number-out κs a r r′ s s′ p p′ = equal-through (p .1) (p′ .1)
-
-pub listing-list-one : OneResult listing-list.Post
-listing-list-one κs a r r′ s s′ p p′ = equal-through (p .0) (p′ .0)
-
-pub listing-list-out : OneExit listing-list.Post (λ κs s. now (s .1 .0))
-listing-list-out κs a r r′ s s′ p p′ = equal-through (p .1) (p′ .1)
-
--- answer, length, control words; values; reply buffer
 pub slave-serve-one : OneResult slave-serve.Post
 slave-serve-one κs a r r′ s s′ p p′ = equal-through (p .answers) (p′ .answers)
 
 pub slave-serve-values : OneExit slave-serve.Post (λ κs s. now (s .1 .1 .0))
-slave-serve-values κs a r r′ s s′ p p′ = equal-through (p .values-are) (p′ .values-are)
+slave-serve-values κs a r r′ s s′ p p′ = ap (λ (m : Memory). m .values) (equal-through (p .memory-is) (p′ .memory-is))
 
 pub slave-serve-reply : OneExit slave-serve.Post (λ κs s. now (s .1 .1 .1 .1 .1 .1 .0))
 slave-serve-reply κs a r r′ s s′ p p′ = equal-through (p .reply-is) (p′ .reply-is)
 
--- answer and length; buffer
 pub master-build-task-one : OneResult master-build-task.Post
 master-build-task-one κs a r r′ s s′ p p′ = equal-through (p .answers) (p′ .answers)
 
@@ -240,48 +284,76 @@ master-build-one κs a r r′ s s′ p p′ = equal-through (p .answers) (p′ .
 pub master-build-out : OneExit master-build.Post (λ κs s. now (s .1 .1 .1 .0))
 master-build-out κs a r r′ s s′ p p′ = equal-through (p .bytes-are) (p′ .bytes-are)
 
--- the calls for C
+pub host-slave-serve-one : OneResult host-slave-serve.Post
+host-slave-serve-one κs a r r′ s s′ p p′ = equal-through (p .answers) (p′ .answers)
+
+pub host-slave-serve-values : OneExit host-slave-serve.Post (λ κs s. now (s .1 .1 .0))
+host-slave-serve-values κs a r r′ s s′ p p′ = ap (λ (m : Memory). m .values) (equal-through (p .memory-is) (p′ .memory-is))
+
+pub host-slave-serve-reply : OneExit host-slave-serve.Post (λ κs s. now (s .1 .1 .1 .1 .1 .1 .0))
+host-slave-serve-reply κs a r r′ s s′ p p′ = equal-through (p .reply-is) (p′ .reply-is)
+
+pub host-master-build-task-one : OneResult host-master-build-task.Post
+host-master-build-task-one κs a r r′ s s′ p p′ = equal-through (p .answers) (p′ .answers)
+
+pub host-master-build-task-out : OneExit host-master-build-task.Post (λ κs s. now (s .1 .1 .1 .1 .1 .1 .0))
+host-master-build-task-out κs a r r′ s s′ p p′ = equal-through (p .bytes-are) (p′ .bytes-are)
+
+pub host-master-build-mirror-one : OneResult host-master-build-mirror.Post
+host-master-build-mirror-one κs a r r′ s s′ p p′ = equal-through (p .answers) (p′ .answers)
+
+pub host-master-build-mirror-out : OneExit host-master-build-mirror.Post (λ κs s. now (s .1 .1 .0))
+host-master-build-mirror-out κs a r r′ s s′ p p′ = equal-through (p .bytes-are) (p′ .bytes-are)
+
+pub host-master-build-broadcast-one : OneResult host-master-build-broadcast.Post
+host-master-build-broadcast-one κs a r r′ s s′ p p′ = equal-through (p .answers) (p′ .answers)
+
+pub host-master-build-broadcast-out : OneExit host-master-build-broadcast.Post (λ κs s. now (s .1 .1 .1 .1 .1 .0))
+host-master-build-broadcast-out κs a r r′ s s′ p p′ = equal-through (p .bytes-are) (p′ .bytes-are)
+
+pub text-put-number-one : OneResult text-put-number.Post
+text-put-number-one κs a r r′ s s′ p p′ = equal-through (p .0) (p′ .0)
+
+pub text-put-number-out : OneExit text-put-number.Post (λ κs s. now (s .0))
+text-put-number-out κs a r r′ s s′ p p′ = equal-through (p .1) (p′ .1)
+
+pub listing-list-one : OneResult listing-list.Post
+listing-list-one κs a r r′ s s′ p p′ = equal-through (p .0) (p′ .0)
+
+pub listing-list-out : OneExit listing-list.Post (λ κs s. now (s .1 .0))
+listing-list-out κs a r r′ s s′ p p′ = equal-through (p .1) (p′ .1)
+
+-- ---- the calls for C
+
 pub uss-slave-one : OneResult uss-slave.Post
-uss-slave-one κs a r r′ s s′ p p′ = λ i. record {
-  number = equal-through (p .number-is) (p′ .number-is) i;
-  length = equal-through (p .length-is) (p′ .length-is) i;
-  control = equal-through (p .control-is) (p′ .control-is) i;
-}
+uss-slave-one κs a r r′ s s′ p p′ = equal-through (p .answers) (p′ .answers)
 
 pub uss-slave-values : OneExit uss-slave.Post (λ κs s. now (s .1 .1 .0))
-uss-slave-values κs a r r′ s s′ p p′ = equal-through (p .values-are) (p′ .values-are)
+uss-slave-values κs a r r′ s s′ p p′ = ap (λ (m : Memory). m .values) (equal-through (p .memory-is) (p′ .memory-is))
 
 pub uss-slave-reply : OneExit uss-slave.Post (λ κs s. now (s .1 .1 .1 .1 .1 .1 .0))
 uss-slave-reply κs a r r′ s s′ p p′ = equal-through (p .reply-is) (p′ .reply-is)
 
-built-one : {o : BuildOutcome} {r r′ : UssBuilt} {out out′ : List ℕ} → BuildLeaves o r out → BuildLeaves o r′ out′ → r ≡ r′
-built-one p p′ = λ i. record { number = equal-through (p .number-is) (p′ .number-is) i; length = equal-through (p .length-is) (p′ .length-is) i }
-
 pub uss-build-task-one : OneResult uss-build-task.Post
-uss-build-task-one κs a r r′ s s′ p p′ = built-one p p′
+uss-build-task-one κs a r r′ s s′ p p′ = equal-through (p .answers) (p′ .answers)
 
 pub uss-build-task-out : OneExit uss-build-task.Post (λ κs s. now (s .1 .1 .1 .1 .1 .1 .0))
 uss-build-task-out κs a r r′ s s′ p p′ = equal-through (p .bytes-are) (p′ .bytes-are)
 
 pub uss-build-mirror-one : OneResult uss-build-mirror.Post
-uss-build-mirror-one κs a r r′ s s′ p p′ = built-one p p′
+uss-build-mirror-one κs a r r′ s s′ p p′ = equal-through (p .answers) (p′ .answers)
 
 pub uss-build-mirror-out : OneExit uss-build-mirror.Post (λ κs s. now (s .1 .1 .0))
 uss-build-mirror-out κs a r r′ s s′ p p′ = equal-through (p .bytes-are) (p′ .bytes-are)
 
 pub uss-build-broadcast-one : OneResult uss-build-broadcast.Post
-uss-build-broadcast-one κs a r r′ s s′ p p′ = built-one p p′
+uss-build-broadcast-one κs a r r′ s s′ p p′ = equal-through (p .answers) (p′ .answers)
 
 pub uss-build-broadcast-out : OneExit uss-build-broadcast.Post (λ κs s. now (s .1 .1 .1 .1 .1 .0))
 uss-build-broadcast-out κs a r r′ s s′ p p′ = equal-through (p .bytes-are) (p′ .bytes-are)
 
 pub uss-read-reply-one : OneResult uss-read-reply.Post
-uss-read-reply-one κs a r r′ s s′ p p′ = λ i. record {
-  number = equal-through (p .number-is) (p′ .number-is) i;
-  id = equal-through (p .id-is) (p′ .id-is) i;
-  value = equal-through (p .value-is) (p′ .value-is) i;
-  process = equal-through (p .process-is) (p′ .process-is) i;
-}
+uss-read-reply-one κs a r r′ s s′ = equal-through
 
 pub uss-list-one : OneResult uss-list.Post
 uss-list-one κs a r r′ s s′ p p′ = equal-through (p .0) (p′ .0)
