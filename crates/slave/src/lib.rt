@@ -187,8 +187,8 @@ fn serve_normal(
     let plan = plan_area(count, table, values.len(), received);
     let deed = plan.deed;
     let area = do_deed(deed, plan.first, values);
-    let length = net::write_normal(reply, setup.node, area, count, status, setup.pzd);
     let next = control::take_control(setup, n, control, received);
+    let length = net::write_normal(reply, setup.node, area, count, status, setup.pzd);
     Served {
         answer: Answer::Replied,
         length,

@@ -1,4 +1,4 @@
--- `slave::serve_normal` meets its contract: 16, 17, then task, reply and control words. Assumes nothing.
+-- `slave::serve_normal` meets its contract: 16, 17, then task, control words and reply. Assumes nothing.
 use mathlib.Core.Path.{_≡_, refl, sym, _∙_}
 use native.Mathlib.Omega.{arith}
 use Rattle.setup.specs.SetupRules.{areaCount}
@@ -91,11 +91,11 @@ do-deed-requires c κs =
     let a = s .args in
     rw (planned p) (plan-fits (areaCount (a .setup) (a .n)) (a .table .now) _ (omega (arith, opened s .count)) (a .received .now))
 
-write-normal-requires : tie.Need-write-normal-requires
-write-normal-requires c κs = search needs
-
 take-control-requires : tie.Need-take-control-requires
 take-control-requires c κs = search needs
+
+write-normal-requires : tie.Need-write-normal-requires
+write-normal-requires c κs = search needs
 
 same-length : tie.Need-same-length
 same-length c = search needs
@@ -105,8 +105,8 @@ same-length-2 c = search needs
 
 returns-3 : tie.Need-returns-3
 returns-3 c =
-    let k : tie.After-take-control = search in
     let w : tie.After-write-normal = search in
+    let k : tie.After-take-control = search in
     let d : tie.After-do-deed = search in
     let p : tie.After-plan-area = search in
     let count : tie.After-area-count = search in
@@ -139,8 +139,8 @@ serve-normal-spec =
     area-count-requires
     plan-area-requires
     do-deed-requires
-    write-normal-requires
     take-control-requires
+    write-normal-requires
     same-length
     same-length-2
     returns-3)
