@@ -3,6 +3,8 @@ pub mod Cases
 pub mod Kept
 pub mod WhenAnswered
 pub mod Replied
+pub mod SendLaws
+pub mod ReplyArea
 pub mod AnswerLines
 pub mod AnswerTable
 pub mod Sequences

@@ -1,4 +1,5 @@
--- Outcomes of slave calls, and sequences of them.
+-- Outcomes of slave calls, their answer numbers, the area of a reply, and sequences of calls.
 pub mod Outcomes
 pub mod AnswerTable
+pub mod ReplyArea
 pub mod Sequence

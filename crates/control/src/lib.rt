@@ -52,8 +52,8 @@ pub fn take_command(setup: Setup, n: usize, control: Words, received: &[u8]) -> 
     ensures { λ r. ⌜ r ≡ commandedOf setup n control (now (received .entry)) ⌝ }
 {
     let count = setup::area_count(setup, n);
-    let command = read_command(received, count);
     let process = area::read_process(received, count, setup.pzd, control);
+    let command = read_command(received, count);
     if broadcast::is_void(command, setup.pkw, setup.pzd, process.w1) {
         return Commanded::Void;
     }

@@ -1,6 +1,6 @@
 -- One record and its values, as the code looks at them. Assumes nothing.
 use Prim.Native.Nat.{ℕ, suc, _+_, _-_, _<_, _≤_}
-use mathlib.Core.Path.{_≡_, refl, _∙_}
+use mathlib.Core.Path.{_≡_, refl, sym, _∙_}
 use mathlib.Core.List.{List}
 use mathlib.Core.Bool.{Bool, true, false, _&&_, and-true, and-false, false≢true}
 use native.Mathlib.Omega.{arith}
@@ -80,10 +80,10 @@ abbrev pub fineOf : Entry → List ℕ → ℕ → Bool
 fineOf e vs place = plainOk e && leb (place + countOf e) (length vs) && runOk e vs (countOf e) place
 
 module _ (e : Entry) (vs : List ℕ) (place : ℕ) where
-  pub fine-broken : (next : ℕ) → plainOk e ≡ false → (false ≡ fineOf e vs place) × (false ≡ true → next ≡ place + countOf e)
-  fine-broken next h = (rw h, λ f. absurd (false≢true f))
+  pub fine-broken : (n : ℕ) → plainOk e ≡ false → (false ≡ fineOf e vs place) × (false ≡ true → n ≡ countOf e)
+  fine-broken n h = (rw h, λ f. absurd (false≢true f))
 
   -- its n values were looked at, and its limits with them
   pub fine-run : (n : ℕ) (r : Bool) → countOf e ≡ n → plainOk e ≡ limitsOk e → r ≡ (limitsOk e && leb (place + n) (length vs) && runOk e vs n place)
-      → (r ≡ fineOf e vs place) × (r ≡ true → place + n ≡ place + countOf e)
-  fine-run n r c o q = (q ∙ rw (c, o), λ f. rw c)
+      → (r ≡ fineOf e vs place) × (r ≡ true → n ≡ countOf e)
+  fine-run n r c o q = (q ∙ rw (c, o), λ f. sym c)

@@ -92,39 +92,39 @@ fn run_holds(e: Entry, values: &[u32], n: usize, place: usize) -> bool
     all
 }
 
-// What a record and its values come to: the place after them, and whether both are in order.
+// What a record and its values come to: how many places it takes, and whether both are in order.
 struct Run {
-    next: usize,
+    places: usize,
     fine: bool,
 }
 
 // The record's number is left to the pass. The head's lower fourteen bits are elements and spare bits: both 0 is one test.
 fn check_record(raw: Record, values: &[u32], place: usize) -> Run
     requires { ⌜ place ≤ 1000000 ⌝ }
-    ensures { λ r. let e = entryOf (raw .head) (raw .minimum) (raw .maximum) in ⌜ (r .fine ≡ (leb (e .elements) 254 && eqb (e .spare) 0 && limitsOk e && leb (place + countOf e) (length (now (values .entry))) && runOk e (now (values .entry)) (countOf e) place)) × (r .fine ≡ true → r .next ≡ place + countOf e) ⌝ }
+    ensures { λ r. let e = entryOf (raw .head) (raw .minimum) (raw .maximum) in ⌜ (r .fine ≡ (leb (e .elements) 254 && eqb (e .spare) 0 && limitsOk e && leb (place + countOf e) (length (now (values .entry))) && runOk e (now (values .entry)) (countOf e) place)) × (r .fine ≡ true → r .places ≡ countOf e) ⌝ }
 {
     let e = entry_of(raw.head, raw.minimum, raw.maximum);
     if raw.head % 16384 == 0 {
         return Run {
-            next: place + 1,
+            places: 1,
             fine: value_holds(e, values, place),
         };
     }
     if e.spare != 0 {
         return Run {
-            next: place,
+            places: 0,
             fine: false,
         };
     }
     if 254 < e.elements {
         return Run {
-            next: place,
+            places: 0,
             fine: false,
         };
     }
     let n = e.elements as usize;
     Run {
-        next: place + n,
+        places: n,
         fine: run_holds(e, values, n, place),
     }
 }
@@ -150,7 +150,7 @@ fn in_order(t: &[u8], values: &[u32]) -> bool
             return false;
         }
         let most = current.head / 131072 * 131072 + 131071;
-        place = run.next;
+        place += run.places;
         at += 12;
         if t.len() <= at {
             break;

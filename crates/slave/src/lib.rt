@@ -184,10 +184,10 @@ fn serve_normal(
         return refuse(Refusal::OtherLength, control);
     }
     let count = setup::area_count(setup, n);
+    let next = control::take_control(setup, n, control, received);
     let plan = plan_area(count, table, values.len(), received);
     let deed = plan.deed;
     let area = do_deed(deed, plan.first, values);
-    let next = control::take_control(setup, n, control, received);
     let length = net::write_normal(reply, setup.node, area, count, status, setup.pzd);
     Served {
         answer: Answer::Replied,

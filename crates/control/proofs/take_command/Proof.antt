@@ -68,8 +68,8 @@ take-command-spec =
     tie.close
     (tie.spec
     area-count-requires
-    read-command-requires
     read-process-requires
+    read-command-requires
     is-void-requires
     returns
     command-control-requires

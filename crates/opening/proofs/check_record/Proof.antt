@@ -18,16 +18,14 @@ use Rattle.opening.proofs.value_holds.Reads as value-holds-reads
 -- the low fourteen bits of the head
 low-bits : (c : tie.After-entry-of) →
     let e = c .entry-of .result in
-    let head = c .before .before .args .raw .head in
+    let start : tie.Start = search in
+    let head = start .args .raw .head in
     (e .elements ≡ head / 64 % 256) × (e .spare ≡ head % 64)
 unfolding entryOf
 low-bits c = rw (c .entry-of .ensures) (refl, refl)
 
 entry-of-requires : tie.Need-entry-of-requires
 entry-of-requires c κs = search needs
-
-add-t8 : tie.Need-add-t8
-add-t8 c = search needs
 
 value-holds-requires : tie.Need-value-holds-requires
 value-holds-requires c κs = search needs
@@ -62,9 +60,6 @@ returns-3 c =
 cast-n : tie.Need-cast-n
 cast-n c = search needs
 
-add-t10 : tie.Need-add-t10
-add-t10 c = search needs
-
 -- spare bits are clear and not all fourteen: an array
 run-holds-requires : tie.Need-run-holds-requires
 run-holds-requires c κs =
@@ -88,12 +83,10 @@ check-record-spec =
     tie.close
     (tie.spec
     entry-of-requires
-    add-t8
     value-holds-requires
     returns
     returns-2
     returns-3
     cast-n
-    add-t10
     run-holds-requires
     returns-4)

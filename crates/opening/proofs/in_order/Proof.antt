@@ -41,7 +41,7 @@ abbrev μ-loop : tie.MeasureT-loop
 
 -- what the loop goes over, and what is asked of it
 abbrev start : tie.At-loop Inv-loop μ-loop → tie.Start Inv-loop μ-loop
-start l = l .before .before .before .before .before .before
+start l = search
 
 abbrev table-of : tie.At-loop Inv-loop μ-loop → List ℕ
 table-of l = now (start l .args .t)
@@ -54,9 +54,9 @@ asked l = tableOk (table-of l) && valuesOk (table-of l) (values-of l)
 
 -- the record and its values are in order
 went : (c : tie.Else2 Inv-loop μ-loop) →
-    let r = c .before .before in
-    let l = r .before in
-    asked l ≡ passFrom (values-of l) (entriesAt (table-of l) (l .loop .at + 12)) (entry (l .loop .current) .number + 1) (r .check-record .result .next)
+    let r : tie.After-check-record Inv-loop μ-loop = search in
+    let l : tie.At-loop Inv-loop μ-loop = search in
+    asked l ≡ passFrom (values-of l) (entriesAt (table-of l) (l .loop .at + 12)) (entry (l .loop .current) .number + 1) (l .loop .place + r .check-record .result .places)
 went c =
     let r : tie.After-check-record Inv-loop μ-loop = search in
     let at-loop : tie.At-loop Inv-loop μ-loop = search in
@@ -65,9 +65,9 @@ went c =
 
 -- no record is left
 ended : (c : tie.Then3 Inv-loop μ-loop) →
-    let r = c .before .before .before .before in
-    let l = r .before in
-    asked l ≡ passFrom (values-of l) [] (entry (l .loop .current) .number + 1) (r .check-record .result .next)
+    let r : tie.After-check-record Inv-loop μ-loop = search in
+    let l : tie.At-loop Inv-loop μ-loop = search in
+    asked l ≡ passFrom (values-of l) [] (entry (l .loop .current) .number + 1) (l .loop .place + r .check-record .result .places)
 ended c =
     let s : tie.Else2 Inv-loop μ-loop = search in
     let l : tie.At-loop Inv-loop μ-loop = search in
@@ -75,9 +75,9 @@ ended c =
 
 -- the record that was read is the next
 on : (c : tie.After-record-of2 Inv-loop μ-loop) →
-    let r = c .before .before .before .before .before .before in
-    let l = r .before in
-    asked l ≡ passFrom (values-of l) (entry (c .record-of2 .result) ∷ entriesAt (table-of l) (l .loop .at + 12 + 12)) (entry (l .loop .current) .number + 1) (r .check-record .result .next)
+    let r : tie.After-check-record Inv-loop μ-loop = search in
+    let l : tie.At-loop Inv-loop μ-loop = search in
+    asked l ≡ passFrom (values-of l) (entry (c .record-of2 .result) ∷ entriesAt (table-of l) (l .loop .at + 12 + 12)) (entry (l .loop .current) .number + 1) (l .loop .place + r .check-record .result .places)
 on c =
     let s : tie.Else2 Inv-loop μ-loop = search in
     let l : tie.At-loop Inv-loop μ-loop = search in
@@ -126,6 +126,15 @@ mul-most c = omega arith
 
 add-most : tie.Need-add-most Inv-loop μ-loop
 add-most c = omega arith
+
+add-place : tie.Need-add-place Inv-loop μ-loop
+add-place c =
+    let else2 : tie.Else2 Inv-loop μ-loop = search in
+    let r : tie.After-check-record Inv-loop μ-loop = search in
+    let l : tie.At-loop Inv-loop μ-loop = search in
+    let n = l .loop .current in
+    let f = not-false (r .check-record .result .fine) (else2 .if2 .left) in
+    omega (arith, l .loop .inv .1, l .loop .inv .2, start l .pre .1, count-le (n .head) (n .minimum) (n .maximum), r .check-record .ensures .1 f)
 
 add-at : tie.Need-add-at Inv-loop μ-loop
 add-at c = omega arith
@@ -213,6 +222,7 @@ in-order-spec =
     returns-2
     mul-most
     add-most
+    add-place
     add-at
     add-record-of
     sub-record-of-2

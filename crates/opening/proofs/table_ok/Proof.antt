@@ -30,7 +30,7 @@ abbrev μ-loop : tie.MeasureT-loop
 μ-loop t n least₀ place₀ k₀ least place k = n - k
 
 -- the record that was read is record k
-is-record : (c : tie.After-entry-of Inv-loop μ-loop) → (let l = c .before .before .before in c .entry-of .result ≡ entryAt (now (l .before .before .args .t)) (l .loop .k))
+is-record : (c : tie.After-entry-of Inv-loop μ-loop) → (let l : tie.At-loop Inv-loop μ-loop = search in let start : tie.Start Inv-loop μ-loop = search in c .entry-of .result ≡ entryAt (now (start .args .t)) (l .loop .k))
 unfolding entryAt
 is-record c =
     let after-record-at : tie.After-record-at Inv-loop μ-loop = search in
@@ -38,8 +38,9 @@ is-record c =
 
 -- and the next of the pass
 left : (c : tie.After-entry-of Inv-loop μ-loop) →
-    let l = c .before .before .before in
-    let a = l .before .before .args in
+    let l : tie.At-loop Inv-loop μ-loop = search in
+    let start : tie.Start Inv-loop μ-loop = search in
+    let a = start .args in
     tableOk (now (a .t)) ≡ ruledFrom (c .entry-of .result ∷ entriesFrom (now (a .t)) (a .n - (l .loop .k + 1)) (l .loop .k + 1)) (l .loop .least) (l .loop .place)
 left c =
     let in-loop : tie.In-loop Inv-loop μ-loop = search in

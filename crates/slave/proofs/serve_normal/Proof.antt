@@ -106,9 +106,9 @@ same-length-2 c = search needs
 returns-3 : tie.Need-returns-3
 returns-3 c =
     let w : tie.After-write-normal = search in
-    let k : tie.After-take-control = search in
     let d : tie.After-do-deed = search in
     let p : tie.After-plan-area = search in
+    let k : tie.After-take-control = search in
     let count : tie.After-area-count = search in
     let e : tie.Else2 = search in
     let l : tie.After-is-other-length = search in
@@ -137,9 +137,9 @@ serve-normal-spec =
     refuse-requires-2
     returns-2
     area-count-requires
+    take-control-requires
     plan-area-requires
     do-deed-requires
-    take-control-requires
     write-normal-requires
     same-length
     same-length-2
