@@ -33,7 +33,7 @@ use Rattle.page.specs.Page.{fullNumber}
 use Rattle.task.specs.declared.Act.{Act}
 use Rattle.task.specs.declared.Act.the-variants.{Nothing, Read, Change, Count, Refuse}
 use Rattle.task.specs.Task.{tasks, taskOf}
-use Rattle.deed.specs.Deed.{taskIn, valueIn, actDeed}
+use Rattle.deed.specs.Deed.{valueIn, actDeed}
 use Rattle.deed.proofs.DeedLaws.{deed-granted, element-there}
 use Rattle.control.specs.Control.{firstWord, processIn, controlTaken, commandAt, commandIn}
 use Rattle.answers.specs.declared.Answer.the-variants.{Replied, Mirrored, Taken}

@@ -35,7 +35,8 @@ use Rattle.claims_slave.specs.Outcomes.{countIn}
 use Rattle.claims_slave.specs.ReplyArea.{idOf, replyIds, OneOf, ZeroBits, NotDouble, FourSent, ThreeSent}
 use Rattle.claims_slave.proofs.Kept.{found-is}
 use Rattle.claims_slave.proofs.WhenAnswered.{replied-call, replied-exactly}
-use Rattle.claims_slave.proofs.SendLaws.{MaySend, in-row, may-idle, may-err, act-sends}
+use Rattle.task.proofs.TaskLaws.{task-row}
+use Rattle.claims_slave.proofs.SendLaws.{MaySend, may-idle, may-err, act-sends}
 
 -- ---- what any task sends
 
@@ -54,7 +55,7 @@ module _ (l : Lent) (passed : openingOf l ≡ Passed) (n : ℕ) where
       go (Denied error) g = rw g (may-err n a error)
       go Granted g =
           let there = passed-in-table l j passed below in
-          rw g (act-sends n a e g (firstPlace (l .table) j) (l .memory) (there .ok) (there .value (elementIn a e) (element-there n a e g)) (taskIn a .act) refl (in-row (a .pke / 4096)))
+          rw g (act-sends n a e g (firstPlace (l .table) j) (l .memory) (there .ok) (there .value (elementIn a e) (element-there n a e g)) (taskIn a .act) refl (task-row (a .pke / 4096)))
 
   found-sends : (a : Area) (f : Found) → foundOf (l .table) a ≡ f → Sends (planOn n (l .table) a f)
   found-sends a Nothing e = may-err n a NoParameter

@@ -1,17 +1,14 @@
 -- What a parameter task may send in its reply's area: the ID by the document's table, the must-be-zero bits, and which values are
 -- words. Assumes nothing.
-use Prim.Native.Nat.{ℕ, _+_, _*_, _/_, _%_, _<_}
+use Prim.Native.Nat.{ℕ, _+_, _/_, _%_, _<_}
 use mathlib.Core.Path.{_≡_, refl, sym, ap}
 use mathlib.Core.Logic.{inl, inr}
-use mathlib.Core.Bool.{Bool, true, false, not, _&&_, cond, false≢true}
-use mathlib.Core.List.{[], _∷_}
-use native.Mathlib.Decide.{decLt}
+use mathlib.Core.Bool.{Bool, true, false, _&&_, cond, false≢true}
 use native.Mathlib.Omega.{arith}
 use borrow.Author.Tests.{eq-eqb, leb-true, not-false}
 use lib.Dec.{eqb}
 use lib.ListN.{getD}
 use Rattle.rows.specs.Bits.{bit}
-use Rattle.rows.proofs.RangeLaws.{between}
 use Rattle.area.specs.declared.Area.{Area}
 use Rattle.area.specs.Read.{emptyArea}
 use Rattle.entry.specs.declared.Entry.{Entry}
@@ -22,57 +19,19 @@ use Rattle.task.specs.declared.Act.{Act}
 use Rattle.task.specs.declared.Act.the-variants.{Nothing as Idle, Read, Change, Count, Refuse}
 use Rattle.task.specs.declared.Width.{Width}
 use Rattle.task.specs.declared.Width.the-variants.{Either, Word, Double}
-use Rattle.task.specs.declared.Task.{Task}
 use Rattle.task.specs.declared.ParameterError.{ParameterError}
-use Rattle.task.specs.declared.ParameterError.the-variants.{NoParameter, NotWritable, OutsideLimits, NoElement, NoArray, OtherWidth, NoRoom, NoTask}
+use Rattle.task.specs.declared.ParameterError.the-variants.{NoElement, NoArray, OtherWidth, NoTask}
 use Rattle.task.specs.declared.Verdict.{Verdict}
 use Rattle.task.specs.declared.Verdict.the-variants.{Granted, Denied}
-use Rattle.task.specs.Task.{tasks, taskOf, readReply, carried}
+use Rattle.task.specs.Task.{readReply, carried}
 use Rattle.task.specs.Verdict.{errorNumber, refusesAct, changesAct, movesValue, differsWidth, lacksArray, lacksElement, verdictOf}
-use Rattle.task.proofs.TaskLaws.{refused-on}
+use Rattle.task.proofs.TaskLaws.{IdOf, RowOf}
+use Rattle.deed.proofs.ReplyLaws.{error-small, reply-id, reply-clear}
 use Rattle.task.proofs.VerdictLaws.{granted-clear}
 use Rattle.deed.specs.Deed.{replyArea, errorArea, taskIn, indexIn, valueIn, elementIn, verdictIn, actDeed}
 use Rattle.opening.specs.Lent.{Memory}
 use Rattle.slave.specs.Perform.{carriedOut}
 use Rattle.claims_slave.specs.ReplyArea.{replyIds, OneOf, NotDouble}
-
--- ---- the reply's ID, by the task
-
--- what the document's table has for a task: reads and word changes 1 or 4, double changes 2 or 5, the number of elements 6
-abbrev pub Replies : Act → Width → ℕ → Type 0
-Replies Idle width reply = Unit {0}
-Replies Read width reply = OneOf reply (1 ∷ 4 ∷ [])
-Replies Change Either reply = ⊥
-Replies Change Word reply = OneOf reply (1 ∷ 4 ∷ [])
-Replies Change Double reply = OneOf reply (2 ∷ 5 ∷ [])
-Replies Count width reply = reply ≡ 6
-Replies Refuse width reply = Unit {0}
-
-abbrev pub InRow : Task → Type 0
-InRow k = Replies (k .act) (k .width) (k .reply)
-
-pub in-row : (id : ℕ) → InRow (taskOf id)
-unfolding taskOf tasks
-in-row id = go (decLt id 15)
-  where
-    one : OneOf 1 (1 ∷ 4 ∷ [])
-    one = inl refl
-
-    four : OneOf 4 (1 ∷ 4 ∷ [])
-    four = inr (inl refl)
-
-    two : OneOf 2 (2 ∷ 5 ∷ [])
-    two = inl refl
-
-    five : OneOf 5 (2 ∷ 5 ∷ [])
-    five = inr (inl refl)
-
-    go : Dec (id < 15) → InRow (taskOf id)
-    go (yes h) =
-        between (λ k. InRow (taskOf k)) 15 0
-        (tt, (one, (one, (two, (tt, (tt, (four, (four, (five, (refl, (tt, (five, (four, (two, (one, tt)))))))))))))))
-        id (omega arith) h
-    go (no h) = rw (refused-on id (omega arith)) tt
 
 -- ---- an area that may be sent in n words
 
@@ -87,27 +46,17 @@ pub record MaySend (n : ℕ) (a : Area) : Type 0 where
 module _ (n : ℕ) (a : Area) (id v : ℕ) (known : OneOf id replyIds) (word : NotDouble id → v < 65536) (single : n ≡ 3 → NotDouble id) where
   may-reply : MaySend n (replyArea a id v)
   may-reply =
-      let digit : (id * 4096 + a .pke % 2048) / 4096 ≡ id = omega arith in
+      let digit = reply-id a id v in
       record {
         id = rw digit known;
-        pke-zero = omega arith;
-        ind-zero = omega arith;
+        pke-zero = reply-clear a id v .0;
+        ind-zero = reply-clear a id v .1;
         word = rw digit word;
         single = rw digit single;
       }
 
 pub may-idle : (n : ℕ) → MaySend n emptyArea
 may-idle n = record { id = inl refl; pke-zero = refl; ind-zero = refl; word = λ d. omega arith; single = λ e. ((λ q. omega arith), λ q. omega arith) }
-
-error-small : (error : ParameterError) → errorNumber error < 65536
-error-small NoParameter = omega arith
-error-small NotWritable = omega arith
-error-small OutsideLimits = omega arith
-error-small NoElement = omega arith
-error-small NoArray = omega arith
-error-small OtherWidth = omega arith
-error-small NoRoom = omega arith
-error-small NoTask = omega arith
 
 pub may-err : (n : ℕ) (a : Area) (error : ParameterError) → MaySend n (errorArea a error)
 may-err n a error =
@@ -129,28 +78,24 @@ count-small e ok = go (eqb (e .elements) 0)
     go false = omega (arith, ok-ruled e ok .elements-few)
 
 -- a read, by the width of the value
-read-sends : (n : ℕ) (a : Area) (reply v : ℕ) (double : Bool) → OneOf reply (1 ∷ 4 ∷ []) → (double ≡ false → v < 65536) → (double ≡ true → n ≡ 3 → ⊥)
+read-sends : (n : ℕ) (a : Area) (reply v : ℕ) (double : Bool) → IdOf false reply → (double ≡ false → v < 65536) → (double ≡ true → n ≡ 3 → ⊥)
     → MaySend n (replyArea a (readReply reply double) v)
 read-sends n a reply v true (inl r) w s = rw r (may-reply n a 2 v (inr (inr (inl refl))) (λ d. absurd (d .0 refl)) (λ q. absurd (s refl q)))
-read-sends n a reply v true (inr (inl r)) w s = rw r (may-reply n a 5 v (inr (inr (inr (inr (inl refl))))) (λ d. absurd (d .1 refl)) (λ q. absurd (s refl q)))
-read-sends n a reply v true (inr (inr z)) w s = absurd z
+read-sends n a reply v true (inr r) w s = rw r (may-reply n a 5 v (inr (inr (inr (inr (inl refl))))) (λ d. absurd (d .1 refl)) (λ q. absurd (s refl q)))
 read-sends n a reply v false (inl r) w s = rw r (may-reply n a 1 v (inr (inl refl)) (λ d. w refl) (λ q. ((λ x. omega arith), λ x. omega arith)))
-read-sends n a reply v false (inr (inl r)) w s = rw r (may-reply n a 4 v (inr (inr (inr (inl refl)))) (λ d. w refl) (λ q. ((λ x. omega arith), λ x. omega arith)))
-read-sends n a reply v false (inr (inr z)) w s = absurd z
+read-sends n a reply v false (inr r) w s = rw r (may-reply n a 4 v (inr (inr (inr (inl refl)))) (λ d. w refl) (λ q. ((λ x. omega arith), λ x. omega arith)))
 
 -- a change, by the width of its task
-change-sends : (n : ℕ) (a : Area) (reply x : ℕ) (width : Width) (double : Bool) → Replies Change width reply → differsWidth width double ≡ false → (double ≡ true → n ≡ 3 → ⊥)
+change-sends : (n : ℕ) (a : Area) (reply x : ℕ) (width : Width) (double : Bool) → RowOf Change width reply → differsWidth width double ≡ false → (double ≡ true → n ≡ 3 → ⊥)
     → MaySend n (replyArea a reply (carried width x))
 change-sends n a reply x Either double z h s = absurd z
 change-sends n a reply x Word double (inl r) h s = rw r (may-reply n a 1 (x % 65536) (inr (inl refl)) (λ d. omega arith) (λ q. ((λ y. omega arith), λ y. omega arith)))
-change-sends n a reply x Word double (inr (inl r)) h s =
+change-sends n a reply x Word double (inr r) h s =
     rw r (may-reply n a 4 (x % 65536) (inr (inr (inr (inl refl)))) (λ d. omega arith) (λ q. ((λ y. omega arith), λ y. omega arith)))
-change-sends n a reply x Word double (inr (inr z)) h s = absurd z
 change-sends n a reply x Double double (inl r) h s =
     rw r (may-reply n a 2 x (inr (inr (inl refl))) (λ d. absurd (d .0 refl)) (λ q. absurd (s (not-false double h) q)))
-change-sends n a reply x Double double (inr (inl r)) h s =
+change-sends n a reply x Double double (inr r) h s =
     rw r (may-reply n a 5 x (inr (inr (inr (inr (inl refl))))) (λ d. absurd (d .1 refl)) (λ q. absurd (s (not-false double h) q)))
-change-sends n a reply x Double double (inr (inr z)) h s = absurd z
 
 -- the row of error 5 does not apply to a task that is granted
 width-agrees : (r a b d : Bool) (rest : Verdict) → cond r (Denied NoTask) (cond a (Denied NoArray) (cond b (Denied NoElement) (cond d (Denied OtherWidth) rest))) ≡ Granted → d ≡ false
@@ -178,7 +123,7 @@ module _ (n : ℕ) (a : Area) (e : Entry) (granted : verdictIn n a e ≡ Granted
       (changesAct (taskIn a .act) && differsWidth (taskIn a .width) (e .double)) _ granted
 
   module _ (first : ℕ) (m : Memory) (ok : entryOk e ≡ true) (within : isWithin e (getD (m .values) (first + elementIn a e) 0) ≡ true) where
-    pub act-sends : (act : Act) → taskIn a .act ≡ act → Replies act (taskIn a .width) (taskIn a .reply)
+    pub act-sends : (act : Act) → taskIn a .act ≡ act → RowOf act (taskIn a .width) (taskIn a .reply)
         → MaySend n (carriedOut (record { deed = actDeed act a e; first = first }) m .area)
     act-sends Idle q row = may-idle n
     act-sends Read q row =

@@ -5,7 +5,7 @@ use mathlib.Core.List.{List}
 use Prim.Native.Nat.{ℕ, _/_, _%_}
 use native.Mathlib.Omega.{arith}
 use lib.Dec.{eqb}
-use borrow.Author.Tests.{eq-eqb, ne-eqb, eqb-false}
+use borrow.Author.Tests.{ne-eqb, eqb-false}
 use Rattle.words.specs.Words.{wordAt, doubleAt, Bytes}
 use Rattle.words.specs.declared.Words.{Words}
 use Rattle.setup.specs.declared.Setup.{Setup}
@@ -15,7 +15,6 @@ use Rattle.area.specs.Read.{areaAt}
 use Rattle.area.proofs.AreaLaws.{area-four, process-first}
 use Rattle.broadcast.specs.declared.Command.{Command}
 use Rattle.broadcast.specs.Broadcast.{isVoid}
-use Rattle.control.specs.declared.Commanded.{Commanded}
 use Rattle.control.specs.declared.Commanded.the-variants.{Void, Changed}
 use Rattle.control.specs.Control.{firstWord, processIn, commandAt, voidIn, controlCommanded, commandedOf}
 
