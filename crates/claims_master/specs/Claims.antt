@@ -1,7 +1,6 @@
 -- What is claimed of telegrams that a master builds (document 01, Slave and Answer numbers), as a slave takes them: k is a call of
 -- the slave, with the telegram as its received bytes.
 --     SoundBuild s r ..     a build that succeeded left a telegram with a sound frame, and nothing else changed
---     countIn k             how many words the received parameter area has
 --     atNode node s         the same set-up at another node
 --     TaskRead k ..         the call reads its bytes as this task
 --     MirrorRead k net      the call answers its bytes, a mirror with these net bytes, with the telegram
@@ -21,7 +20,7 @@ use Rattle.frame.specs.Address.{decodedOf}
 use Rattle.frame.specs.declared.FrameCheck.the-variants.{Sound}
 use Rattle.frame.specs.declared.Decoded.the-variants.{Normal, Mirror as MirrorTelegram, Broadcast as BroadcastTelegram}
 use Rattle.setup.specs.declared.Setup.{Setup}
-use Rattle.setup.specs.SetupRules.{areaCount, otherLength}
+use Rattle.setup.specs.SetupRules.{otherLength}
 use Rattle.area.specs.Read.{emptyArea, areaAt, firstWords, Worded}
 use Rattle.page.specs.Page.{fullNumber, named}
 use Rattle.broadcast.specs.Broadcast.{controlAfter}
@@ -29,7 +28,7 @@ use Rattle.control.specs.Control.{firstWord, processIn, controlTaken, commandIn
 use Rattle.request.specs.declared.Request.{Request}
 use Rattle.request.specs.declared.Request.the-variants.{Task, Mirror, Broadcast}
 use Rattle.request.specs.Request.{commandOf}
-use Rattle.slave.specs.Slave.{Call, netIn, taskAt, normalOutcome, mirrorOutcome, executeOf}
+use Rattle.slave.specs.Slave.{Call, netIn, countIn, taskAt, normalOutcome, mirrorOutcome, executeOf}
 use Rattle.slave.specs.Perform.{performOf}
 use Rattle.answers.specs.declared.Answer.the-variants.{Taken}
 use Rattle.master.specs.Build.{BuildOutcome, taskArea, telegramFor}
@@ -49,9 +48,6 @@ pub record SoundBuild (s : Setup) (r : Request) (net out : List ℕ) (o : BuildO
 -- the same set-up at another node
 abbrev pub atNode : ℕ → Setup → Setup
 atNode node s = record { node = node; pkw = s .pkw; pzd = s .pzd }
-
-abbrev pub countIn : Call → ℕ
-countIn k = areaCount (k .setup) (netIn (k .received))
 
 pub record TaskRead (k : Call) (id number index value : ℕ) (process : Words) : Type 0 where
   -- a normal telegram of the slave's node and length

@@ -12,7 +12,7 @@ use lib.ListN.{length}
 use Rattle.words.specs.declared.Words.{Words}
 use Rattle.setup.specs.declared.Setup.{Setup}
 use Rattle.setup.specs.SetupRules.{areaCount}
-use Rattle.setup.proofs.SetupLaws.{Configured, ok-configured, area-few}
+use Rattle.setup.proofs.SetupLaws.{Configured, ok-configured, area-few, area-sized}
 use Rattle.table.specs.Records.{entryAt, firstPlace}
 use Rattle.table.specs.declared.Found.{Found}
 use Rattle.table.specs.declared.Found.the-variants.{At, Nothing}
@@ -37,7 +37,6 @@ use Rattle.deed.proofs.DeedLaws.{element-there, change-inside}
 use Rattle.slave.specs.declared.Plan.{Plan}
 use Rattle.slave.specs.Perform.{foundOf, planOn, planIn, planAt, carriedOut}
 use Rattle.slave.specs.Slave.{Call, Outcome, lentBy, openingAt, netIn, replyOf, replyAt, taskAt, callOf}
-use Rattle.slave.proofs.CaseLaws.{area-sized}
 use Rattle.slave.proofs.PerformLaws.{found-whole, named-found}
 use Rattle.claims_slave.specs.Outcomes.{isRefused, Untouched}
 use Rattle.claims_slave.proofs.Cases.{call-cases}
@@ -109,7 +108,7 @@ module _ (l : Lent) (passed : openingOf l ≡ Passed) where
 -- a reply has the words of its areas, and four more bytes
 pub reply-long : (s : Setup) (n : ℕ) (a : Area) (status : Words) → Configured s → length (replyOf s n a status) ≡ (areaCount s n + s .pzd) * 2 + 4
 unfolding replyOf
-reply-long s n a status c = omega (arith, length-normal a (areaCount s n) status (s .pzd) (c .process) (area-sized s n c) (s .node))
+reply-long s n a status c = omega (arith, length-normal a (areaCount s n) status (s .pzd) (c .process) (area-sized s c) (s .node))
 
 -- ---- the next call passes the opening check too
 

@@ -38,9 +38,9 @@ use Rattle.deed.proofs.DeedLaws.{deed-granted, element-there}
 use Rattle.control.specs.Control.{firstWord, processIn, controlTaken, commandAt, commandIn}
 use Rattle.answers.specs.declared.Answer.the-variants.{Replied, Mirrored, Taken}
 use Rattle.slave.specs.Perform.{planIn, planAt, doneBy}
-use Rattle.slave.specs.Slave.{Call, lentBy, netIn, taskAt, replyOf, replyAt, callOf}
+use Rattle.slave.specs.Slave.{countIn, Call, lentBy, netIn, taskAt, replyOf, replyAt, callOf}
 use Rattle.slave.proofs.PerformLaws.{found-fits, named-found}
-use Rattle.claims_slave.specs.Outcomes.{SoundReply, SameReply, countIn, areaIn, GrantedChange, placeIn}
+use Rattle.claims_slave.specs.Outcomes.{SoundReply, SameReply, areaIn, GrantedChange, placeIn}
 use Rattle.claims_slave.proofs.Kept.{reply-long}
 use Rattle.claims_slave.proofs.WhenAnswered.{replied-call, mirrored-call, taken-call, replied-exactly, mirrored-exactly, taken-exactly}
 

@@ -30,8 +30,7 @@ use Rattle.opening.proofs.FoundLaws.{passed-in-table}
 use Rattle.answers.specs.declared.Answer.the-variants.{Replied}
 use Rattle.slave.specs.declared.Plan.{Plan}
 use Rattle.slave.specs.Perform.{foundOf, planOn, planIn, planAt, carriedOut}
-use Rattle.slave.specs.Slave.{Call, lentBy, netIn, taskAt, replyOf, replyAt, sentBy, callOf}
-use Rattle.claims_slave.specs.Outcomes.{countIn}
+use Rattle.slave.specs.Slave.{countIn, Call, lentBy, netIn, taskAt, replyOf, replyAt, sentBy, callOf}
 use Rattle.claims_slave.specs.ReplyArea.{idOf, replyIds, OneOf, ZeroBits, NotDouble, FourSent, ThreeSent}
 use Rattle.claims_slave.proofs.Kept.{found-is}
 use Rattle.claims_slave.proofs.WhenAnswered.{replied-call, replied-exactly}

@@ -6,7 +6,7 @@
 --     FrameRefused o k       refused with 10 to 14, and untouched
 --     PastFrame o            the answer's number is none of 10 to 14 (NotFrame)
 --     receiving k rx         the same call with other bytes received
---     countIn k, areaIn k    the words of the received parameter area, and the area
+--     areaIn k               the received parameter area
 --     GrantedChange k j      the call asks for a change of a value of record j, and no error applies
 --     placeIn k j            the place that it means
 use Prim.Native.Nat.{ℕ, _+_, _≤_, _<_}
@@ -15,7 +15,6 @@ use mathlib.Core.Logic.{_⊎_}
 use mathlib.Core.Bool.{Bool, true, false}
 use mathlib.Core.List.{List}
 use lib.ListN.{length, drop}
-use Rattle.setup.specs.SetupRules.{areaCount}
 use Rattle.frame.specs.Frame.{lastOf, frameOf}
 use Rattle.frame.specs.Address.{decodedOf}
 use Rattle.frame.specs.declared.FrameCheck.the-variants.{Sound}
@@ -31,7 +30,7 @@ use Rattle.task.specs.declared.Act.the-variants.{Change}
 use Rattle.task.specs.declared.Verdict.the-variants.{Granted}
 use Rattle.deed.specs.Deed.{taskIn, elementIn, verdictIn}
 use Rattle.slave.specs.Perform.{foundOf}
-use Rattle.slave.specs.Slave.{Call, Outcome, sentBy, netIn}
+use Rattle.slave.specs.Slave.{Call, Outcome, sentBy, countIn}
 
 abbrev pub isRefused : Answer → Bool
 isRefused Replied = false
@@ -75,9 +74,6 @@ receiving k rx =
     record { setup = k .setup; table = k .table; memory = k .memory; control = k .control; status = k .status; received = rx; buffer = k .buffer }
 
 -- ---- a change that is made
-
-abbrev pub countIn : Call → ℕ
-countIn k = areaCount (k .setup) (netIn (k .received))
 
 abbrev pub areaIn : Call → Area
 areaIn k = areaAt (k .received) (countIn k)

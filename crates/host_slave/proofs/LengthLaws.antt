@@ -9,7 +9,7 @@ use lib.ListN.{length}
 use Rattle.words.specs.declared.Words.{Words}
 use Rattle.setup.specs.declared.Setup.{Setup}
 use Rattle.setup.specs.SetupRules.{areaCount, otherNode, otherLength}
-use Rattle.setup.proofs.SetupLaws.{Configured, ok-configured, own-words}
+use Rattle.setup.proofs.SetupLaws.{Configured, ok-configured, own-words, area-sized}
 use Rattle.frame.specs.Address.{decodedOf}
 use Rattle.frame.specs.declared.Decoded.{Decoded}
 use Rattle.frame.specs.declared.Decoded.the-variants.{Normal, Mirror, Broadcast, Unread}
@@ -25,7 +25,7 @@ use Rattle.opening.proofs.AnswersLaws.{passed-opened}
 use Rattle.control.specs.Control.{voidIn}
 use Rattle.slave.specs.declared.Served.{Served}
 use Rattle.slave.specs.Slave.{Call, Leaves, lentBy, openingAt, replyOf, taskAt, normalCase, mirrorCase, broadcastCase, executeDecoded, callOpened, callOf}
-use Rattle.slave.proofs.CaseLaws.{normal-other-node, normal-other-length, normal-replied, mirror-other-node, mirror-sent, broadcast-other-length, broadcast-void, broadcast-taken, area-sized, executed, called}
+use Rattle.slave.proofs.CaseLaws.{normal-other-node, normal-other-length, normal-replied, mirror-other-node, mirror-sent, broadcast-other-length, broadcast-void, broadcast-taken, executed, called}
 
 -- the reply of a telegram with n net bytes has n of them too
 reply-long : (s : Setup) (n : ℕ) (a : Area) (status : Words) → Configured s → otherLength s n ≡ false → length (replyOf s n a status) ≡ n + 4
@@ -34,7 +34,7 @@ reply-long s n a status c own =
     omega (
       arith,
       length-sent (s .node) (fixedWords (areaCount s n) a) (processWords (s .pzd) status),
-      length-fixed (areaCount s n) a (area-sized s n c),
+      length-fixed (areaCount s n) a (area-sized s c),
       length-process (s .pzd) status (c .process),
       own-words s n own,
     )

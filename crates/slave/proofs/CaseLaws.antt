@@ -1,6 +1,5 @@
 -- Each case of the slave call by the tests that lead to it. Assumes nothing.
 use mathlib.Core.Path.{_≡_, ap}
-use mathlib.Core.Logic.{_⊎_, inl, inr}
 use mathlib.Core.Bool.{true, false}
 use mathlib.Core.List.{List}
 use Prim.Native.Nat.{ℕ, _≤_}
@@ -9,8 +8,7 @@ use lib.ListN.{length}
 use Rattle.words.specs.declared.Words.{Words}
 use Rattle.setup.specs.declared.Setup.{Setup}
 use Rattle.setup.specs.SetupRules.{areaCount, otherNode, otherLength}
-use Rattle.setup.proofs.SetupLaws.{Configured, Wide, area-few}
-use Rattle.area.proofs.WordLaws.{Sized}
+use Rattle.setup.proofs.SetupLaws.{Configured, area-few, area-sized}
 use Rattle.area.specs.declared.Area.{Area}
 use Rattle.net.specs.Normal.{normalOf, normalLength}
 use Rattle.net.specs.Telegram.{written}
@@ -57,22 +55,13 @@ module _ (n : ℕ) (k : Call) where
   unfolding broadcastCase
   broadcast-taken h v = rw (h, v)
 
--- the words of an area are none, or three and more
-pub area-sized : (s : Setup) (n : ℕ) → Configured s → Sized (areaCount s n)
-area-sized s n c = go (c .areas)
-  where
-    go : (s .pkw ≡ 0) ⊎ Wide (s .pkw) → Sized (s .pkw)
-    go (inl e) = inl e
-    go (inr (inl e)) = inr (omega arith)
-    go (inr (inr e)) = inr (omega arith)
-
 -- the reply of a set-up that may be used, as it is written
 pub reply-sent : (s : Setup) (n : ℕ) (a : Area) (status : Words) (out : List ℕ) → Configured s → 256 ≤ length out
     → (normalLength out a (areaCount s n) status (s .pzd) ≡ length (replyOf s n a status))
     × (normalOf out (s .node) a (areaCount s n) status (s .pzd) ≡ written out (replyOf s n a status))
 unfolding replyOf
 reply-sent s n a status out c room =
-    normal-sent a (areaCount s n) status (s .pzd) (c .process) (area-sized s n c) out (s .node) room (omega (arith, c .some)) (area-few s c)
+    normal-sent a (areaCount s n) status (s .pzd) (c .process) (area-sized s c) out (s .node) room (omega (arith, c .some)) (area-few s c)
 
 module _ (k : Call) where
   pub executed : (d : Decoded) → decodedOf (k .received) ≡ d → executeOf k ≡ executeDecoded d k

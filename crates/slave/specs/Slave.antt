@@ -7,6 +7,7 @@
 --     refusedOf f k        a refusal
 --     sentBy o             the reply that a call leaves
 --     netIn rx             the net bytes of a telegram, all but 02, LGE, ADR and BCC: n in what follows
+--     countIn k            how many words the received parameter area has
 --     taskAt n k           the parameter task, done
 --     replyAt n k          the reply to a normal telegram
 --     normalCase node n k  16, 17, or a normal telegram: task, control words, reply
@@ -75,6 +76,9 @@ sentBy o = take (o .served .length) (o .reply)
 
 abbrev pub netIn : List ℕ → ℕ
 netIn rx = length rx - 4
+
+abbrev pub countIn : Call → ℕ
+countIn k = areaCount (k .setup) (netIn (k .received))
 
 -- ---- normal
 
