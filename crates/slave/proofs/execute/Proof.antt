@@ -104,7 +104,7 @@ returns-2 c =
     let start : tie.Start = search in
     let a = start .args in
     let e = sym (d .decode .ensures) ∙ after-node .node .given .1 in
-    rw (executed (call start) _ e) (m .serve-mirror .ensures (a .table .now) (record { values = a .values .now }) (a .status))
+    rw (executed (call start) _ e) (m .serve-mirror .ensures (a .table .now) (call start .memory) (a .status))
 
 returns-3 : tie.Need-returns-3
 returns-3 c =
@@ -113,7 +113,7 @@ returns-3 c =
     let start : tie.Start = search in
     let a = start .args in
     let e = sym (d .decode .ensures) ∙ after-enum-told .enum-told .given .1 in
-    rw (executed (call start) _ e) (c .serve-broadcast .ensures (a .table .now) (record { values = a .values .now }) (a .status) (a .reply .now))
+    rw (executed (call start) _ e) (c .serve-broadcast .ensures (a .table .now) (call start .memory) (a .status) (a .reply .now))
 
 same-length-2 : tie.Need-same-length-2
 same-length-2 c = search needs
