@@ -31,7 +31,11 @@ read-record-requires c κs = omega arith
 count-places-requires : tie.Need-count-places-requires Inv-loop μ-loop
 count-places-requires c κs = search needs
 
-counted : (c : tie.After-count-places Inv-loop μ-loop) → let l = c .before .before .before in c .count-places .result ≡ countOf (entryAt (now (l .before .before .args .t)) (l .loop .i))
+-- the places of record i
+counted : (c : tie.After-count-places Inv-loop μ-loop) →
+    let l : tie.At-loop Inv-loop μ-loop = search in
+    let start : tie.Start Inv-loop μ-loop = search in
+    c .count-places .result ≡ countOf (entryAt (now (start .args .t)) (l .loop .i))
 counted c =
     let after-read-record : tie.After-read-record Inv-loop μ-loop = search in
     c .count-places .ensures ∙ ap countOf (after-read-record .read-record .ensures)
