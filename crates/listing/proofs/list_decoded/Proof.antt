@@ -24,8 +24,8 @@ slice-aggregate-list-good c = search needs
 
 list-good-requires : tie.Need-list-good-requires
 list-good-requires c κs =
-    let m = c .before .before .before in
-    let d = m .before .before in
+    let m : tie.After-node = search in
+    let d : tie.After-decode = search in
     (telegram-long _ (ap isTelegram (sym (d .decode .ensures) ∙ m .node .given .1)), search needs)
 
 enum-known-node-2 : tie.Need-enum-known-node-2
@@ -36,8 +36,8 @@ slice-aggregate-list-good-2 c = search needs
 
 list-good-requires-2 : tie.Need-list-good-requires-2
 list-good-requires-2 c κs =
-    let m = c .before .before .before in
-    let d = m .before .before in
+    let m : tie.After-node2 = search in
+    let d : tie.After-decode = search in
     (telegram-long _ (ap isTelegram (sym (d .decode .ensures) ∙ m .node2 .given .1)), search needs)
 
 enum-told : tie.Need-enum-told
@@ -45,17 +45,18 @@ enum-told c = search needs
 
 shared-slice-read-list-good : tie.Need-shared-slice-read-list-good
 shared-slice-read-list-good c =
-    let m = c .before in
-    let d = m .before .before in
-    omega (arith, telegram-long (d .before .before .before .args .t .now) (ap isTelegram (sym (d .decode .ensures) ∙ m .enum-told .given .1)))
+    let m : tie.After-enum-told = search in
+    let d : tie.After-decode = search in
+    let start : tie.Start = search in
+    omega (arith, telegram-long (start .args .t .now) (ap isTelegram (sym (d .decode .ensures) ∙ m .enum-told .given .1)))
 
 slice-aggregate-list-good-3 : tie.Need-slice-aggregate-list-good-3
 slice-aggregate-list-good-3 c = search needs
 
 list-good-requires-3 : tie.Need-list-good-requires-3
 list-good-requires-3 c κs =
-    let m = c .before .before .before in
-    let d = m .before .before in
+    let m : tie.After-enum-told = search in
+    let d : tie.After-decode = search in
     (telegram-long _ (ap isTelegram (sym (d .decode .ensures) ∙ m .enum-told .given .1)), search needs)
 
 enum-known-fault : tie.Need-enum-known-fault
@@ -78,41 +79,45 @@ same-length c = search needs
 
 returns : tie.Need-returns
 returns c =
-    let g = c .before .before in
-    let m = g .before .before .before .before in
-    let d = m .before .before in
-    rw (listing-by (d .before .before .before .args .t .now) _ (sym (d .decode .ensures) ∙ m .node .given .1)) (g .list-good .ensures .0, g .list-good .ensures .1)
+    let g : tie.After-list-good = search in
+    let m : tie.After-node = search in
+    let d : tie.After-decode = search in
+    let start : tie.Start = search in
+    rw (listing-by (start .args .t .now) _ (sym (d .decode .ensures) ∙ m .node .given .1)) (g .list-good .ensures .0, g .list-good .ensures .1)
 
 same-length-2 : tie.Need-same-length-2
 same-length-2 c = search needs
 
 returns-2 : tie.Need-returns-2
 returns-2 c =
-    let g = c .before .before in
-    let m = g .before .before .before .before in
-    let d = m .before .before in
-    rw (listing-by (d .before .before .before .args .t .now) _ (sym (d .decode .ensures) ∙ m .node2 .given .1)) (g .list-good2 .ensures .0, g .list-good2 .ensures .1)
+    let g : tie.After-list-good2 = search in
+    let m : tie.After-node2 = search in
+    let d : tie.After-decode = search in
+    let start : tie.Start = search in
+    rw (listing-by (start .args .t .now) _ (sym (d .decode .ensures) ∙ m .node2 .given .1)) (g .list-good2 .ensures .0, g .list-good2 .ensures .1)
 
 same-length-3 : tie.Need-same-length-3
 same-length-3 c = search needs
 
 returns-3 : tie.Need-returns-3
 returns-3 c =
-    let g = c .before .before in
-    let m = g .before .before .before .before in
-    let d = m .before .before in
-    rw (listing-by (d .before .before .before .args .t .now) _ (sym (d .decode .ensures) ∙ m .enum-told .given .1)) (g .list-good3 .ensures .0, g .list-good3 .ensures .1)
+    let g : tie.After-list-good3 = search in
+    let m : tie.After-enum-told = search in
+    let d : tie.After-decode = search in
+    let start : tie.Start = search in
+    rw (listing-by (start .args .t .now) _ (sym (d .decode .ensures) ∙ m .enum-told .given .1)) (g .list-good3 .ensures .0, g .list-good3 .ensures .1)
 
 same-length-4 : tie.Need-same-length-4
 same-length-4 c = search needs
 
 returns-4 : tie.Need-returns-4
 returns-4 c =
-    let g = c .before .before in
-    let n = g .before .before in
-    let m = n .before .before in
-    let d = m .before .before in
-    rw (listing-by (d .before .before .before .args .t .now) _ (sym (d .decode .ensures) ∙ m .fault .given .1), ← (n .number-fault .ensures)) (g .list-refused .ensures .0, g .list-refused .ensures .1)
+    let g : tie.After-list-refused = search in
+    let n : tie.After-number-fault = search in
+    let m : tie.After-fault = search in
+    let d : tie.After-decode = search in
+    let start : tie.Start = search in
+    rw (listing-by (start .args .t .now) _ (sym (d .decode .ensures) ∙ m .fault .given .1), ← (n .number-fault .ensures)) (g .list-refused .ensures .0, g .list-refused .ensures .1)
 
 pub list-decoded-spec : {M : Type 1} → statement M
 list-decoded-spec =

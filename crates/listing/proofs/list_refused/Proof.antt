@@ -25,22 +25,27 @@ count-digits-requires : tie.Need-count-digits-requires
 count-digits-requires c κs = search needs
 
 add-if1 : tie.Need-add-if1
-add-if1 c = omega (arith, length-digits 9 (c .before .before .args .count) (omega arith))
+add-if1 c =
+    let start : tie.Start = search in
+    omega (arith, length-digits 9 (start .args .count) (omega arith))
 
 count-digits-requires-2 : tie.Need-count-digits-requires-2
 count-digits-requires-2 c κs = search needs
 
 add-if1-2 : tie.Need-add-if1-2
 add-if1-2 c =
-    let a = c .before .before .before .args in
+    let start : tie.Start = search in
+    let a = start .args in
     omega (arith, length-digits 9 (a .count) (omega arith), length-digits 9 (a .number) (omega arith))
 
 returns : tie.Need-returns
 returns c =
-    let d = c .before in
-    let a = d .before .before .before .args in
+    let d : tie.After-count-digits2 = search in
+    let after-count-digits : tie.After-count-digits = search in
+    let start : tie.Start = search in
+    let a = start .args in
     let text = joined (refusedPieces (a .count) (a .number)) in
-    let h : length (a .out .now) < 0 + length text = omega (arith, refused-size (a .count) (a .number), d .before .count-digits .ensures, d .count-digits2 .ensures) in
+    let h : length (a .out .now) < 0 + length text = omega (arith, refused-size (a .count) (a .number), after-count-digits .count-digits .ensures, d .count-digits2 .ensures) in
     rw (put-not (a .out .now) 0 text h) (refl, refl)
 
 write-start-requires : tie.Need-write-start-requires
@@ -63,14 +68,16 @@ same-length c = search needs
 
 returns-2 : tie.Need-returns-2
 returns-2 c =
-    let p3 = c .before .before in
-    let p2 = p3 .before .before .before .before .before in
-    let p1 = p2 .before .before .before .before .before in
-    let e = p1 .before .before in
-    let d = e .before in
-    let a = d .before .before .before .args in
+    let p3 : tie.After-put = search in
+    let p2 : tie.After-write-field = search in
+    let p1 : tie.After-write-start = search in
+    let e : tie.Else1 = search in
+    let d : tie.After-count-digits2 = search in
+    let after-count-digits : tie.After-count-digits = search in
+    let start : tie.Start = search in
+    let a = start .args in
     let pieces = refusedPieces (a .count) (a .number) in
-    let h : 0 + length (joined pieces) ≤ length (a .out .now) = omega (arith, refused-size (a .count) (a .number), d .before .count-digits .ensures, d .count-digits2 .ensures) in
+    let h : 0 + length (joined pieces) ≤ length (a .out .now) = omega (arith, refused-size (a .count) (a .number), after-count-digits .count-digits .ensures, d .count-digits2 .ensures) in
     let w1 = more (none (a .out .now) 0) (header ∷ ascii "bytes " ∷ digits (a .count) ∷ []) (p1 .write-start .ensures .0) (p1 .write-start .ensures .1) in
     let w2 = more w1 (ascii " refused " ∷ digits (a .number) ∷ []) (p2 .write-field .ensures .0) (p2 .write-field .ensures .1) in
     let w3 = more w2 (ascii "\n" ∷ []) (p3 .put .ensures .0) (p3 .put .ensures .1) in

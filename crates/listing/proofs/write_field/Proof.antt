@@ -21,9 +21,10 @@ same-length c = search needs
 
 returns : tie.Need-returns
 returns c =
-    let n = c .before .before in
-    let p = n .before .before .before .before in
-    let a = p .before .before .before .before .args in
+    let n : tie.After-put-number = search in
+    let p : tie.After-put = search in
+    let start : tie.Start = search in
+    let a = start .args in
     let w = more (more (none (a .out .now) (a .at)) (a .label .now ∷ []) (p .put .ensures .0) (p .put .ensures .1)) (digits (a .n) ∷ []) (n .put-number .ensures .0) (n .put-number .ensures .1) in
     (w .place, w .bytes)
 

@@ -53,14 +53,15 @@ same-length c = search needs
 
 returns : tie.Need-returns
 returns c =
-    let p7 = c .before .before in
-    let p6 = p7 .before .before .before .before .before in
-    let p5 = p6 .before .before .before .before .before in
-    let p4 = p5 .before .before .before .before in
-    let p3 = p4 .before .before .before .before .before in
-    let p2 = p3 .before .before .before .before .before in
-    let p1 = p2 .before .before .before .before .before in
-    let a = p1 .before .before .before .before .args in
+    let p7 : tie.After-put3 = search in
+    let p6 : tie.After-write-field3 = search in
+    let p5 : tie.After-put2 = search in
+    let p4 : tie.After-put = search in
+    let p3 : tie.After-write-field2 = search in
+    let p2 : tie.After-write-field = search in
+    let p1 : tie.After-write-start = search in
+    let start : tie.Start = search in
+    let a = start .args in
     let start = header ∷ ascii "bytes " ∷ digits (a .count) ∷ [] in
     let w1 = more (none (a .out .now) 0) start (p1 .write-start .ensures .0) (p1 .write-start .ensures .1) in
     let w2 = more w1 (ascii " lge " ∷ digits (a .lge) ∷ []) (p2 .write-field .ensures .0) (p2 .write-field .ensures .1) in

@@ -28,9 +28,10 @@ same-length c = search needs
 
 returns : tie.Need-returns
 returns c =
-    let f = c .before .before in
-    let p = f .before .before .before .before .before in
-    let a = p .before .before .before .before .args in
+    let f : tie.After-write-field = search in
+    let p : tie.After-put = search in
+    let start : tie.Start = search in
+    let a = start .args in
     let w = more (more (none (a .out .now) 0) (header ∷ []) (p .put .ensures .0) (p .put .ensures .1)) (ascii "bytes " ∷ digits (a .count) ∷ []) (f .write-field .ensures .0) (f .write-field .ensures .1) in
     (w .place, w .bytes)
 

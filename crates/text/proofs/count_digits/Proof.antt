@@ -21,17 +21,23 @@ loop-holds c = omega arith
 
 add-count : tie.Need-add-count Inv-loop μ-loop
 add-count c =
-    let n = c .before .before .args .n in
-    omega (arith, length-digits 9 n (omega arith), some-digit (c .before .loop .rest))
+    let at-loop : tie.At-loop Inv-loop μ-loop = search in
+    let start : tie.Start Inv-loop μ-loop = search in
+    let n = start .args .n in
+    omega (arith, length-digits 9 n (omega arith), some-digit (at-loop .loop .rest))
 
 loop-less : tie.Need-loop-less Inv-loop μ-loop
 loop-less c = omega arith
 
 loop-again : tie.Need-loop-again Inv-loop μ-loop
-loop-again c = omega (arith, c .before .loop .inv, length-more (c .before .loop .rest) (c .loop-test .taken))
+loop-again c =
+    let at-loop : tie.At-loop Inv-loop μ-loop = search in
+    omega (arith, at-loop .loop .inv, length-more (at-loop .loop .rest) (c .loop-test .taken))
 
 returns : tie.Need-returns Inv-loop μ-loop
-returns c = omega (arith, c .before .loop .inv, length-small (c .before .loop .rest) (omega arith))
+returns c =
+    let at-loop : tie.At-loop Inv-loop μ-loop = search in
+    omega (arith, at-loop .loop .inv, length-small (at-loop .loop .rest) (omega arith))
 
 pub count-digits-spec : {M : Type 1} → statement M
 count-digits-spec =

@@ -22,31 +22,40 @@ has-room-requires : tie.Need-has-room-requires
 has-room-requires c κs = search needs
 
 -- what the test says of the digits
-tested : (c : tie.After-has-room) → let a = c .before .before .before .args in leb (a .at + length (digits (a .n))) (length (a .out .now)) ≡ c .has-room .result
+tested : (c : tie.After-has-room) → (let start : tie.Start = search in let a = start .args in leb (a .at + length (digits (a .n))) (length (a .out .now)) ≡ c .has-room .result)
 tested c =
-    let a = c .before .before .before .args in
-    ap (λ (k : ℕ). leb (a .at + k) (length (a .out .now))) (sym (c .before .count-digits .ensures)) ∙ sym (c .has-room .ensures)
+    let after-count-digits : tie.After-count-digits = search in
+    let start : tie.Start = search in
+    let a = start .args in
+    ap (λ (k : ℕ). leb (a .at + k) (length (a .out .now))) (sym (after-count-digits .count-digits .ensures)) ∙ sym (c .has-room .ensures)
 
-room : (c : tie.Then1) → let a = c .before .before .before .before .args in a .at + length (digits (a .n)) ≤ length (a .out .now)
-room c = leb-true _ _ (tested (c .before) ∙ c .if1 .taken)
+room : (c : tie.Then1) → (let start : tie.Start = search in let a = start .args in a .at + length (digits (a .n)) ≤ length (a .out .now))
+room c =
+    let after-has-room : tie.After-has-room = search in
+    leb-true _ _ (tested (after-has-room) ∙ c .if1 .taken)
 
 write-digits-requires : tie.Need-write-digits-requires
-write-digits-requires c κs = room (c .before)
+write-digits-requires c κs =
+    let then1 : tie.Then1 = search in
+    room (then1)
 
 same-length : tie.Need-same-length
 same-length c = search needs
 
 returns : tie.Need-returns
 returns c =
-    let b = c .before .before in
-    let t = b .before .before in
-    let a = t .before .before .before .before .args in
+    let b : tie.After-write-digits = search in
+    let t : tie.Then1 = search in
+    let start : tie.Start = search in
+    let a = start .args in
     rw (put-fits (a .out .now) (a .at) (digits (a .n)) (room t)) (b .write-digits .ensures .0, b .write-digits .ensures .1)
 
 returns-2 : tie.Need-returns-2
 returns-2 c =
-    let a = c .before .before .before .before .args in
-    let h : length (a .out .now) < a .at + length (digits (a .n)) = leb-false _ _ (tested (c .before) ∙ c .if1 .left) in
+    let after-has-room : tie.After-has-room = search in
+    let start : tie.Start = search in
+    let a = start .args in
+    let h : length (a .out .now) < a .at + length (digits (a .n)) = leb-false _ _ (tested (after-has-room) ∙ c .if1 .left) in
     rw (put-not (a .out .now) (a .at) (digits (a .n)) h) (refl, refl)
 
 pub put-number-spec : {M : Type 1} → statement M
