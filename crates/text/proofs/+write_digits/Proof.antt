@@ -24,6 +24,16 @@ abbrev write-digits-below : ℕ → In 1 write-digits-kinds.ps
 write-digits-below t =
     and 1 write-digits-kinds.ps (falls 1 write-digits-kinds.ps _<_ μ-write-digits t) write-digits.Pre
 
+-- the places of one call, where those below it are proved
+abbrev Start : ℕ → Type 0
+Start t = write-digits-lts.Start (write-digits-below t, write-digits.Post) (write-digits-at t) write-digits.Post
+
+abbrev Else1 : ℕ → Type 0
+Else1 t = write-digits-lts.Else1 (write-digits-below t, write-digits.Post) (write-digits-at t) write-digits.Post
+
+abbrev After-write-digits : ℕ → Type 0
+After-write-digits t = write-digits-lts.After-write-digits (write-digits-below t, write-digits.Post) (write-digits-at t) write-digits.Post
+
 write-digits-cast-out :
     (t : ℕ) →
     write-digits-lts.Need-cast-out
@@ -44,7 +54,9 @@ write-digits-slice-write-out : (t : ℕ) → write-digits-lts.Need-slice-write-o
   write-digits-below t,
   write-digits.Post,
 ) (write-digits-at t) write-digits.Post
-write-digits-slice-write-out t c = omega (arith, some-digit (c .before .before .args .n))
+write-digits-slice-write-out t c =
+    let start : Start t = search in
+    omega (arith, some-digit (start .args .n))
 
 write-digits-add-result : (t : ℕ) → write-digits-lts.Need-add-result (
   write-digits-below t,
@@ -65,7 +77,8 @@ write-digits-returns :
     (write-digits-at t)
     write-digits.Post
 write-digits-returns t c =
-    let n = c .before .before .args .n in
+    let start : Start t = search in
+    let n = start .args .n in
     let h : n < 10 = omega arith in
     rw (digits-small n h) (refl, refl)
 
@@ -74,7 +87,8 @@ write-digits-write-digits-requires : (t : ℕ) → write-digits-lts.Need-write-d
   write-digits.Post,
 ) (write-digits-at t) write-digits.Post
 write-digits-write-digits-requires t c κs =
-    let n = c .before .before .before .args .n in
+    let start : Start t = search in
+    let n = start .args .n in
     (omega arith, omega (arith, length-tenth n))
 
 write-digits-cast-out-2 : (t : ℕ) → write-digits-lts.Need-cast-out-2 (
@@ -94,16 +108,18 @@ write-digits-slice-write-out-2 : (t : ℕ) → write-digits-lts.Need-slice-write
   write-digits.Post,
 ) (write-digits-at t) write-digits.Post
 write-digits-slice-write-out-2 t c =
-    let a = c .before .before .before .before .before .before in
-    omega (arith, length-more (a .args .n) (c .before .before .before .before .if1 .left))
+    let e : Else1 t = search in
+    let start : Start t = search in
+    omega (arith, length-more (start .args .n) (e .if1 .left))
 
 write-digits-add-result-2 : (t : ℕ) → write-digits-lts.Need-add-result-2 (
   write-digits-below t,
   write-digits.Post,
 ) (write-digits-at t) write-digits.Post
 write-digits-add-result-2 t c =
-    let a = c .before .before .before .before .before .before in
-    omega (arith, length-more (a .args .n) (c .before .before .before .before .if1 .left))
+    let e : Else1 t = search in
+    let start : Start t = search in
+    omega (arith, length-more (start .args .n) (e .if1 .left))
 
 write-digits-same-length-2 : (t : ℕ) → write-digits-lts.Need-same-length-2 (
   write-digits-below t,
@@ -116,11 +132,14 @@ write-digits-returns-2 : (t : ℕ) → write-digits-lts.Need-returns-2 (
   write-digits.Post,
 ) (write-digits-at t) write-digits.Post
 write-digits-returns-2 t c =
-    let a = c .before .before .before .before .before .before in
-    let h : 10 ≤ a .args .n = c .before .before .before .before .if1 .left in
-    let q = c .before .before .write-digits in (
-      omega (arith, length-more (a .args .n) h),
-      rw (q .ensures .0, q .ensures .1, digits-more (a .args .n) h) (rw sets-append),
+    let w : After-write-digits t = search in
+    let e : Else1 t = search in
+    let start : Start t = search in
+    let n = start .args .n in
+    let h : 10 ≤ n = e .if1 .left in
+    let q = w .write-digits in (
+      omega (arith, length-more n h),
+      rw (q .ensures .0, q .ensures .1, digits-more n h) (rw sets-append),
     )
 
 pub +write-digits-spec : {M : Type 1} → statement M
