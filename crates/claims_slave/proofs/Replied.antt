@@ -31,8 +31,9 @@ use Rattle.broadcast.specs.Broadcast.{isVoid}
 use Rattle.broadcast.proofs.VoidLaws.{not-void-commands, runs-after}
 use Rattle.page.specs.Page.{fullNumber}
 use Rattle.task.specs.declared.Act.{Act}
-use Rattle.task.specs.declared.Act.the-variants.{Nothing, Read, Change, Count, Refuse}
+use Rattle.task.specs.declared.Act.the-variants.{Change}
 use Rattle.task.specs.Task.{tasks, taskOf}
+use Rattle.task.specs.Verdict.{changesAct}
 use Rattle.deed.specs.Deed.{valueIn, actDeed}
 use Rattle.deed.proofs.DeedLaws.{deed-granted, element-there}
 use Rattle.control.specs.Control.{firstWord, processIn, controlTaken, commandAt, commandIn}
@@ -79,20 +80,13 @@ module _ (k : Call) where
 
 -- ---- what is stored
 
-abbrev isChange : Act → Bool
-isChange Nothing = false
-isChange Read = false
-isChange Change = true
-isChange Count = false
-isChange Refuse = false
-
 -- task 0 is no change
 change-busy : (id : ℕ) → taskOf id .act ≡ Change → eqb id 0 ≡ false
 unfolding taskOf tasks
 change-busy id q = go (eqb id 0) refl
   where
     go : (b : Bool) → eqb id 0 ≡ b → eqb id 0 ≡ false
-    go true e = absurd (false≢true (ap isChange (rw (eqb-true id 0 e) at q)))
+    go true e = absurd (false≢true (ap changesAct (rw (eqb-true id 0 e) at q)))
     go false e = e
 
 module _ (k : Call) where

@@ -2,79 +2,20 @@
 --     four-sent       four words: ID, must-be-zero bits, and PWE1 is 0 unless the ID is 2 or 5
 --     three-sent      three words: the same, no double value, and PWE1 holds the value or error number
 use Prim.Native.Nat.{ℕ, _/_, _%_, _<_}
-use mathlib.Core.Path.{_≡_, refl, ap, _∙_}
-use mathlib.Core.Bool.{Bool, true, false}
+use mathlib.Core.Path.{_≡_, ap, _∙_}
 use mathlib.Core.List.{List}
 use native.Mathlib.Omega.{arith}
-use lib.Dec.{eqb}
-use lib.ListN.{length}
 use Rattle.words.specs.Words.{wordAt}
 use Rattle.area.specs.declared.Area.{Area}
-use Rattle.area.specs.Read.{areaAt}
 use Rattle.area.specs.Net.{fixedWords, processWords, netOf}
 use Rattle.net.specs.Telegram.{telegramOf}
 use Rattle.net.proofs.SealLaws.{written-first}
-use Rattle.entry.specs.declared.Entry.{Entry}
-use Rattle.table.specs.Records.{entryAt, firstPlace}
-use Rattle.table.specs.declared.Found.{Found}
-use Rattle.table.specs.declared.Found.the-variants.{At, Nothing}
-use Rattle.task.specs.declared.ParameterError.the-variants.{NoParameter}
-use Rattle.task.specs.declared.Verdict.{Verdict}
-use Rattle.task.specs.declared.Verdict.the-variants.{Granted, Denied}
-use Rattle.deed.specs.Deed.{taskIn, elementIn, verdictIn, deedOn}
-use Rattle.deed.proofs.DeedLaws.{element-there}
-use Rattle.opening.specs.declared.Opening.the-variants.{Passed}
-use Rattle.opening.specs.Lent.{Lent}
-use Rattle.opening.specs.Answers.{openingOf}
-use Rattle.opening.proofs.FoundLaws.{passed-in-table}
+use Rattle.deed.proofs.ReplyLaws.{MayReply}
 use Rattle.answers.specs.declared.Answer.the-variants.{Replied}
-use Rattle.slave.specs.declared.Plan.{Plan}
-use Rattle.slave.specs.Perform.{foundOf, planOn, planIn, planAt, carriedOut}
 use Rattle.slave.specs.Slave.{countIn, Call, lentBy, netIn, taskAt, replyOf, replyAt, sentBy, callOf}
 use Rattle.claims_slave.specs.ReplyArea.{idOf, replyIds, OneOf, ZeroBits, NotDouble, FourSent, ThreeSent}
-use Rattle.claims_slave.proofs.Kept.{found-is}
 use Rattle.claims_slave.proofs.WhenAnswered.{replied-call, replied-exactly}
-use Rattle.task.proofs.TaskLaws.{task-row}
-use Rattle.claims_slave.proofs.SendLaws.{MaySend, may-idle, may-err, act-sends}
-
--- ---- what any task sends
-
-module _ (l : Lent) (passed : openingOf l ≡ Passed) (n : ℕ) where
-  abbrev Sends : Plan → Type 0
-  Sends p = MaySend n (carriedOut p (l .memory) .area)
-
-  record-sends : (a : Area) (j : ℕ) → j < length (l .table) / 12 → Sends (planOn n (l .table) a (At j))
-  unfolding deedOn
-  record-sends a j below = go (verdictIn n a (entryAt (l .table) j)) refl
-    where
-      e : Entry
-      e = entryAt (l .table) j
-
-      go : (v : Verdict) → verdictIn n a (entryAt (l .table) j) ≡ v → Sends (planOn n (l .table) a (At j))
-      go (Denied error) g = rw g (may-err n a error)
-      go Granted g =
-          let there = passed-in-table l j passed below in
-          rw g (act-sends n a e g (firstPlace (l .table) j) (l .memory) (there .ok) (there .value (elementIn a e) (element-there n a e g)) (taskIn a .act) refl (task-row (a .pke / 4096)))
-
-  found-sends : (a : Area) (f : Found) → foundOf (l .table) a ≡ f → Sends (planOn n (l .table) a f)
-  found-sends a Nothing e = may-err n a NoParameter
-  found-sends a (At j) e = record-sends a j (found-is (l .table) a j e)
-
-  area-sends : (a : Area) → Sends (planIn n (l .table) a)
-  unfolding planIn
-  area-sends a = go (eqb (a .pke / 4096) 0) refl
-    where
-      go : (b : Bool) → eqb (a .pke / 4096) 0 ≡ b → Sends (planIn n (l .table) a)
-      go true e = rw e (may-idle n)
-      go false e = rw e (found-sends a (foundOf (l .table) a) refl)
-
-  task-sends : (rx : List ℕ) → Sends (planAt n (l .table) rx)
-  unfolding planAt
-  task-sends rx = go (eqb n 0) refl
-    where
-      go : (b : Bool) → eqb n 0 ≡ b → Sends (planAt n (l .table) rx)
-      go true e = rw e (may-idle n)
-      go false e = rw e (area-sends (areaAt rx n))
+use Rattle.claims_slave.proofs.SendLaws.{id-listed, task-sends}
 
 -- ---- the bytes
 
@@ -94,9 +35,9 @@ module _ (adr : ℕ) (a : Area) (ps : List ℕ) where
   unfolding netOf
   three-words = (omega arith, omega arith, omega arith)
 
-module _ (t : List ℕ) (n : ℕ) (a : Area) (m : MaySend n a) (pke : wordAt t 3 ≡ a .pke) (ind : wordAt t 5 ≡ a .ind) where
+module _ (t : List ℕ) (n : ℕ) (a : Area) (m : MayReply n a) (pke : wordAt t 3 ≡ a .pke) (ind : wordAt t 5 ≡ a .ind) where
   id-sent : OneOf (idOf t) replyIds
-  id-sent = rw pke (m .id)
+  id-sent = rw pke (id-listed (a .pke / 4096) (m .few) (m .not-3))
 
   zero-sent : ZeroBits t
   zero-sent = record { pke = rw pke (m .pke-zero); ind = rw ind (m .ind-zero) }
@@ -142,7 +83,7 @@ module _ (k : Call) where
       let h = replied-exactly k .0 e in
       rw (replied-call k (h .0) (h .1) (h .2)) (written-first (k .buffer) (replyAt n k))
 
-  sends : callOf k .served .answer ≡ Replied → MaySend (countIn k) area
+  sends : callOf k .served .answer ≡ Replied → MayReply (countIn k) area
   sends e = task-sends (lentBy k) (replied-exactly k .0 e .0) (countIn k) (k .received)
 
   pub four-sent : callOf k .served .answer ≡ Replied → countIn k ≡ 4 → FourSent (sentBy (callOf k)) (taskAt (netIn (k .received)) k .area .value)

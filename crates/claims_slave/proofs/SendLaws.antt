@@ -1,136 +1,95 @@
--- What a parameter task may send in its reply's area: the ID by the document's table, the must-be-zero bits, and which values are
--- words. Assumes nothing.
-use Prim.Native.Nat.{ℕ, _+_, _/_, _%_, _<_}
-use mathlib.Core.Path.{_≡_, refl, sym, ap}
+-- What any task of a slave that opened is answered with: a reply as the deed has it, of the values in the memory. Assumes nothing.
+use Prim.Native.Nat.{ℕ, _+_, _/_, _≤_, _<_}
+use mathlib.Core.Path.{_≡_, refl}
 use mathlib.Core.Logic.{inl, inr}
-use mathlib.Core.Bool.{Bool, true, false, _&&_, cond, false≢true}
+use mathlib.Core.Bool.{Bool, true, false}
+use mathlib.Core.List.{List}
 use native.Mathlib.Omega.{arith}
-use borrow.Author.Tests.{eq-eqb, leb-true, not-false}
+use borrow.Author.Tests.{leb-true}
 use lib.Dec.{eqb}
-use lib.ListN.{getD}
-use Rattle.rows.specs.Bits.{bit}
+use lib.ListN.{getD, length}
+use Rattle.rows.proofs.RangeLaws.{between}
 use Rattle.area.specs.declared.Area.{Area}
-use Rattle.area.specs.Read.{emptyArea}
+use Rattle.area.specs.Read.{areaAt}
 use Rattle.entry.specs.declared.Entry.{Entry}
-use Rattle.entry.specs.Fields.{countOf}
-use Rattle.entry.specs.Limits.{fitsIn, isWithin, entryOk}
+use Rattle.entry.specs.Limits.{fitsIn, isWithin}
 use Rattle.entry.proofs.LimitsLaws.{ok-ruled, within-fits}
-use Rattle.task.specs.declared.Act.{Act}
-use Rattle.task.specs.declared.Act.the-variants.{Nothing as Idle, Read, Change, Count, Refuse}
-use Rattle.task.specs.declared.Width.{Width}
-use Rattle.task.specs.declared.Width.the-variants.{Either, Word, Double}
-use Rattle.task.specs.declared.ParameterError.{ParameterError}
-use Rattle.task.specs.declared.ParameterError.the-variants.{NoElement, NoArray, OtherWidth, NoTask}
-use Rattle.task.specs.declared.Verdict.{Verdict}
-use Rattle.task.specs.declared.Verdict.the-variants.{Granted, Denied}
-use Rattle.task.specs.Task.{readReply, carried}
-use Rattle.task.specs.Verdict.{errorNumber, refusesAct, changesAct, movesValue, differsWidth, lacksArray, lacksElement, verdictOf}
-use Rattle.task.proofs.TaskLaws.{IdOf, RowOf}
-use Rattle.deed.proofs.ReplyLaws.{error-small, reply-id, reply-clear}
-use Rattle.task.proofs.VerdictLaws.{granted-clear}
-use Rattle.deed.specs.Deed.{replyArea, errorArea, taskIn, indexIn, valueIn, elementIn, verdictIn, actDeed}
-use Rattle.opening.specs.Lent.{Memory}
-use Rattle.slave.specs.Perform.{carriedOut}
-use Rattle.claims_slave.specs.ReplyArea.{replyIds, OneOf, NotDouble}
+use Rattle.table.specs.Records.{entryAt, firstPlace}
+use Rattle.table.specs.declared.Found.{Found}
+use Rattle.table.specs.declared.Found.the-variants.{At, Nothing}
+use Rattle.task.specs.declared.ParameterError.the-variants.{NoParameter}
+use Rattle.deed.specs.declared.Deed.{Deed}
+use Rattle.deed.specs.declared.Deed.the-variants.{Reply, Fetch, Write}
+use Rattle.deed.specs.Deed.{elementIn, deedOn}
+use Rattle.deed.proofs.DeedLaws.{element-there}
+use Rattle.deed.proofs.ReplyLaws.{MayReply, idle-replies, error-replies, filled, deed-replies}
+use Rattle.opening.specs.declared.Opening.the-variants.{Passed}
+use Rattle.opening.specs.Lent.{Lent, Memory}
+use Rattle.opening.specs.Answers.{openingOf}
+use Rattle.opening.proofs.FoundLaws.{passed-in-table}
+use Rattle.slave.specs.declared.Plan.{Plan}
+use Rattle.slave.specs.Perform.{doneBy, foundOf, planOn, planIn, planAt, carriedOut}
+use Rattle.claims_slave.specs.ReplyArea.{replyIds, OneOf}
+use Rattle.claims_slave.proofs.Kept.{found-is}
 
--- ---- an area that may be sent in n words
+-- the reply IDs are those of the document's table
+pub id-listed : (id : ℕ) → id ≤ 7 → (id ≡ 3 → ⊥) → OneOf id replyIds
+id-listed id few not-3 =
+    between (λ k. (k ≡ 3 → ⊥) → OneOf k replyIds) 8 0 (
+      λ h. inl refl,
+      (
+        λ h. inr (inl refl),
+        (
+          λ h. inr (inr (inl refl)),
+          (
+            λ h. absurd (h refl),
+            (λ h. inr (inr (inr (inl refl))), (λ h. inr (inr (inr (inr (inl refl)))), (λ h. inr (inr (inr (inr (inr (inl refl))))), (λ h. inr (inr (inr (inr (inr (inr (inl refl)))))), tt)))),
+          ),
+        ),
+      ),
+    )
+    id (omega arith) (omega arith) not-3
 
-pub record MaySend (n : ℕ) (a : Area) : Type 0 where
-  pub id : OneOf (a .pke / 4096) replyIds
-  pub pke-zero : bit 11 (a .pke) ≡ 0
-  pub ind-zero : a .ind / 256 % 16 ≡ 0
-  pub word : NotDouble (a .pke / 4096) → a .value < 65536
-  pub single : n ≡ 3 → NotDouble (a .pke / 4096)
+-- the element that a deed fetches comes from the memory
+done-filled : (d : Deed) (first : ℕ) (m : Memory) → doneBy d first m .area ≡ filled d (λ i. getD (m .values) (first + i) 0)
+done-filled (Reply p) first m = refl
+done-filled (Fetch p element) first m = refl
+done-filled (Write p element) first m = refl
 
--- an ID with base, page and index of a task, and any value
-module _ (n : ℕ) (a : Area) (id v : ℕ) (known : OneOf id replyIds) (word : NotDouble id → v < 65536) (single : n ≡ 3 → NotDouble id) where
-  may-reply : MaySend n (replyArea a id v)
-  may-reply =
-      let digit = reply-id a id v in
-      record {
-        id = rw digit known;
-        pke-zero = reply-clear a id v .0;
-        ind-zero = reply-clear a id v .1;
-        word = rw digit word;
-        single = rw digit single;
-      }
-
-pub may-idle : (n : ℕ) → MaySend n emptyArea
-may-idle n = record { id = inl refl; pke-zero = refl; ind-zero = refl; word = λ d. omega arith; single = λ e. ((λ q. omega arith), λ q. omega arith) }
-
-pub may-err : (n : ℕ) (a : Area) (error : ParameterError) → MaySend n (errorArea a error)
-may-err n a error =
-    may-reply n a 7 (errorNumber error) (inr (inr (inr (inr (inr (inr (inl refl))))))) (λ d. error-small error) (λ e. ((λ q. omega arith), λ q. omega arith))
-
--- ---- what a granted task sends
-
--- a word within its limits, and a number of elements, are words
-word-small : (e : Entry) (v : ℕ) → e .double ≡ false → isWithin e v ≡ true → v < 65536
+-- a value within the limits of a word is a word
+word-small : (e : Entry) (v : ℕ) → isWithin e v ≡ true → e .double ≡ false → v < 65536
 unfolding fitsIn
-word-small e v d w = let h = leb-true v 65535 (rw d at (within-fits e v w)) in omega arith
+word-small e v w d = let h = leb-true v 65535 (rw d at (within-fits e v w)) in omega arith
 
-count-small : (e : Entry) → entryOk e ≡ true → countOf e < 65536
-unfolding countOf
-count-small e ok = go (eqb (e .elements) 0)
-  where
-    go : (b : Bool) → cond b 1 (e .elements) < 65536
-    go true = omega arith
-    go false = omega (arith, ok-ruled e ok .elements-few)
+module _ (l : Lent) (passed : openingOf l ≡ Passed) (n : ℕ) where
+  abbrev Sends : Plan → Type 0
+  Sends p = MayReply n (carriedOut p (l .memory) .area)
 
--- a read, by the width of the value
-read-sends : (n : ℕ) (a : Area) (reply v : ℕ) (double : Bool) → IdOf false reply → (double ≡ false → v < 65536) → (double ≡ true → n ≡ 3 → ⊥)
-    → MaySend n (replyArea a (readReply reply double) v)
-read-sends n a reply v true (inl r) w s = rw r (may-reply n a 2 v (inr (inr (inl refl))) (λ d. absurd (d .0 refl)) (λ q. absurd (s refl q)))
-read-sends n a reply v true (inr r) w s = rw r (may-reply n a 5 v (inr (inr (inr (inr (inl refl))))) (λ d. absurd (d .1 refl)) (λ q. absurd (s refl q)))
-read-sends n a reply v false (inl r) w s = rw r (may-reply n a 1 v (inr (inl refl)) (λ d. w refl) (λ q. ((λ x. omega arith), λ x. omega arith)))
-read-sends n a reply v false (inr r) w s = rw r (may-reply n a 4 v (inr (inr (inr (inl refl)))) (λ d. w refl) (λ q. ((λ x. omega arith), λ x. omega arith)))
+  record-sends : (a : Area) (j : ℕ) → j < length (l .table) / 12 → Sends (planOn n (l .table) a (At j))
+  record-sends a j below =
+      let e = entryAt (l .table) j in
+      let first = firstPlace (l .table) j in
+      let there = passed-in-table l j passed below in
+      rw (done-filled (deedOn n a e) first (l .memory))
+      (deed-replies n a e (ok-ruled e (there .ok) .elements-few) (λ i. getD (l .memory .values) (first + i) 0)
+      (λ g. word-small e (getD (l .memory .values) (first + elementIn a e) 0) (there .value (elementIn a e) (element-there n a e g))))
 
--- a change, by the width of its task
-change-sends : (n : ℕ) (a : Area) (reply x : ℕ) (width : Width) (double : Bool) → RowOf Change width reply → differsWidth width double ≡ false → (double ≡ true → n ≡ 3 → ⊥)
-    → MaySend n (replyArea a reply (carried width x))
-change-sends n a reply x Either double z h s = absurd z
-change-sends n a reply x Word double (inl r) h s = rw r (may-reply n a 1 (x % 65536) (inr (inl refl)) (λ d. omega arith) (λ q. ((λ y. omega arith), λ y. omega arith)))
-change-sends n a reply x Word double (inr r) h s =
-    rw r (may-reply n a 4 (x % 65536) (inr (inr (inr (inl refl)))) (λ d. omega arith) (λ q. ((λ y. omega arith), λ y. omega arith)))
-change-sends n a reply x Double double (inl r) h s =
-    rw r (may-reply n a 2 x (inr (inr (inl refl))) (λ d. absurd (d .0 refl)) (λ q. absurd (s (not-false double h) q)))
-change-sends n a reply x Double double (inr r) h s =
-    rw r (may-reply n a 5 x (inr (inr (inr (inr (inl refl))))) (λ d. absurd (d .1 refl)) (λ q. absurd (s (not-false double h) q)))
+  found-sends : (a : Area) (f : Found) → foundOf (l .table) a ≡ f → Sends (planOn n (l .table) a f)
+  found-sends a Nothing e = error-replies n a NoParameter
+  found-sends a (At j) e = record-sends a j (found-is (l .table) a j e)
 
--- the row of error 5 does not apply to a task that is granted
-width-agrees : (r a b d : Bool) (rest : Verdict) → cond r (Denied NoTask) (cond a (Denied NoArray) (cond b (Denied NoElement) (cond d (Denied OtherWidth) rest))) ≡ Granted → d ≡ false
-width-agrees true a b d rest e = let z : _≡_ {A = ℕ} 0 1 = cc in absurd (omega arith)
-width-agrees false true b d rest e = let z : _≡_ {A = ℕ} 0 1 = cc in absurd (omega arith)
-width-agrees false false true d rest e = let z : _≡_ {A = ℕ} 0 1 = cc in absurd (omega arith)
-width-agrees false false false true rest e = let z : _≡_ {A = ℕ} 0 1 = cc in absurd (omega arith)
-width-agrees false false false false rest e = refl
+  area-sends : (a : Area) → Sends (planIn n (l .table) a)
+  unfolding planIn
+  area-sends a = go (eqb (a .pke / 4096) 0) refl
+    where
+      go : (b : Bool) → eqb (a .pke / 4096) 0 ≡ b → Sends (planIn n (l .table) a)
+      go true e = rw e (idle-replies n)
+      go false e = rw e (found-sends a (foundOf (l .table) a) refl)
 
--- a double value has no room in three words
-no-room : (double three moves : Bool) → (double && (three && moves)) ≡ false → moves ≡ true → double ≡ true → three ≡ true → ⊥
-no-room true true true h m d t = false≢true (sym h)
-no-room true true false h m d t = false≢true m
-no-room true false moves h m d t = false≢true t
-no-room false three moves h m d t = false≢true d
-
-module _ (n : ℕ) (a : Area) (e : Entry) (granted : verdictIn n a e ≡ Granted) where
-  room : movesValue (taskIn a .act) ≡ true → e .double ≡ true → n ≡ 3 → ⊥
-  room c d q = no-room (e .double) (eqb n 3) (movesValue (taskIn a .act)) (granted-clear n (taskIn a) e (indexIn a) (valueIn a) granted .room-there) c d (eq-eqb n 3 q)
-
-  width : (changesAct (taskIn a .act) && differsWidth (taskIn a .width) (e .double)) ≡ false
-  unfolding verdictOf
-  width =
-      width-agrees (refusesAct (taskIn a .act)) (lacksArray (taskIn a) e (indexIn a)) (lacksElement (taskIn a) e (indexIn a))
-      (changesAct (taskIn a .act) && differsWidth (taskIn a .width) (e .double)) _ granted
-
-  module _ (first : ℕ) (m : Memory) (ok : entryOk e ≡ true) (within : isWithin e (getD (m .values) (first + elementIn a e) 0) ≡ true) where
-    pub act-sends : (act : Act) → taskIn a .act ≡ act → RowOf act (taskIn a .width) (taskIn a .reply)
-        → MaySend n (carriedOut (record { deed = actDeed act a e; first = first }) m .area)
-    act-sends Idle q row = may-idle n
-    act-sends Read q row =
-        read-sends n a (taskIn a .reply) (getD (m .values) (first + elementIn a e) 0) (e .double) row
-        (λ d. word-small e _ d within) (room (ap movesValue q))
-    act-sends Change q row =
-        change-sends n a (taskIn a .reply) (a .value) (taskIn a .width) (e .double) row (rw q at width) (room (ap movesValue q))
-    act-sends Count q row =
-        rw row (may-reply n a 6 (countOf e) (inr (inr (inr (inr (inr (inl refl)))))) (λ d. count-small e ok) (λ z. ((λ x. omega arith), λ x. omega arith)))
-    act-sends Refuse q row = may-err n a NoTask
+  pub task-sends : (rx : List ℕ) → Sends (planAt n (l .table) rx)
+  unfolding planAt
+  task-sends rx = go (eqb n 0) refl
+    where
+      go : (b : Bool) → eqb n 0 ≡ b → Sends (planAt n (l .table) rx)
+      go true e = rw e (idle-replies n)
+      go false e = rw e (area-sends (areaAt rx n))

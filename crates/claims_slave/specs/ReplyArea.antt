@@ -9,9 +9,11 @@
 use Prim.Native.Nat.{ℕ, _/_, _%_}
 use mathlib.Core.Path.{_≡_}
 use mathlib.Core.Logic.{_⊎_}
+use mathlib.Core.Bool.{false}
 use mathlib.Core.List.{List, [], _∷_}
 use Rattle.rows.specs.Bits.{bit}
 use Rattle.words.specs.Words.{wordAt}
+use Rattle.task.specs.Task.{isDoubleId}
 
 abbrev pub idOf : List ℕ → ℕ
 idOf t = wordAt t 3 / 4096
@@ -28,7 +30,7 @@ pub record ZeroBits (t : List ℕ) : Type 0 where
   pub ind : wordAt t 5 / 256 % 16 ≡ 0
 
 abbrev pub NotDouble : ℕ → Type 0
-NotDouble id = (id ≡ 2 → ⊥) × (id ≡ 5 → ⊥)
+NotDouble id = isDoubleId id ≡ false
 
 -- word values and error numbers are in PWE2, and PWE1 is 0
 pub record FourSent (t : List ℕ) (v : ℕ) : Type 0 where
