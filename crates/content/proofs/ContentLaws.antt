@@ -1,13 +1,13 @@
 -- An area is no reply where one of the conditions holds, and is one where none does. Assumes nothing.
 use mathlib.Core.Path.{_≡_, refl}
-use mathlib.Core.Bool.{Bool, true, false, not, _&&_, _||_, cond, false≢true}
+use mathlib.Core.Bool.{Bool, true, false, not, _&&_, cond, false≢true}
 use mathlib.Core.List.{List, [], _∷_}
 use Prim.Native.Nat.{ℕ, zero, suc, _/_, _%_}
 use borrow.Author.Tests.{eq-eqb}
 use lib.Dec.{eqb, ltb}
 use lib.ListN.{getD}
 use Rattle.rows.specs.Rows.{firstOf, Each}
-use Rattle.rows.proofs.BoolLaws.{cond-same, or-left, or-right}
+use Rattle.rows.proofs.BoolLaws.{cond-same}
 use Rattle.area.specs.declared.Area.{Area}
 use Rattle.page.specs.Page.{baseOf, nibbleOf}
 use Rattle.task.specs.Task.{isDoubleId}
@@ -61,19 +61,3 @@ module _ (n : ℕ) (q : Question) (a : Area) where
         f .word,
       )
       (cond-same (eqb (a .pke / 4096) 8 && not (eqb (a .value) 0)))
-
-  -- a double without room, or a value over a word
-  pub misfit-bad : (isDoubleId (a .pke / 4096) && eqb n 3 || not (isDoubleId (a .pke / 4096)) && ltb 65535 (a .value)) ≡ true → badReply n q a ≡ true
-  unfolding badRows
-  misfit-bad h = go (isDoubleId (a .pke / 4096) && eqb n 3) refl
-    where
-      go : (b : Bool) → (isDoubleId (a .pke / 4096) && eqb n 3) ≡ b → badReply n q a ≡ true
-      go true e = bad-by 2 e
-      go false e = bad-by 8 (rw e at h)
-
-  pub fits-room : (isDoubleId (a .pke / 4096) && eqb n 3 || not (isDoubleId (a .pke / 4096)) && ltb 65535 (a .value)) ≡ false
-      → ((isDoubleId (a .pke / 4096) && eqb n 3) ≡ false) × ((not (isDoubleId (a .pke / 4096)) && ltb 65535 (a .value)) ≡ false)
-  fits-room h =
-      let x = isDoubleId (a .pke / 4096) && eqb n 3 in
-      let y = not (isDoubleId (a .pke / 4096)) && ltb 65535 (a .value) in
-      (or-left x y h, or-right x y h)

@@ -68,12 +68,22 @@ fn is_filled(id: u8, area: Area) -> bool
     area.value != 0
 }
 
-// Whether a double has no room, or stands where a word is expected.
-fn is_misfit(n: u8, reply_id: u8, value: u32) -> bool
-    ensures { λ r. ⌜ r ≡ (isDoubleId «reply_id» && eqb n 3 || not (isDoubleId «reply_id») && ltb 65535 value) ⌝ }
+// Whether a double stands in three words.
+fn is_cramped(n: u8, reply_id: u8) -> bool
+    ensures { λ r. ⌜ r ≡ (isDoubleId «reply_id» && eqb n 3) ⌝ }
 {
     if is_one_of(reply_id, 2, 5) {
         return n == 3;
+    }
+    false
+}
+
+// Whether PWE1 is not 0 before a word.
+fn is_too_wide(reply_id: u8, value: u32) -> bool
+    ensures { λ r. ⌜ r ≡ (not (isDoubleId «reply_id») && ltb 65535 value) ⌝ }
+{
+    if is_one_of(reply_id, 2, 5) {
+        return false;
     }
     65535 < value
 }
@@ -89,7 +99,7 @@ pub fn is_bad(n: u8, asked: Question, area: Area) -> bool
     if is_filled(asked.id, area) {
         return true;
     }
-    if is_misfit(n, reply_id, area.value) {
+    if is_cramped(n, reply_id) {
         return true;
     }
     if area.pke % 2048 != asked.number % 2000 {
@@ -105,6 +115,9 @@ pub fn is_bad(n: u8, asked: Question, area: Area) -> bool
         return true;
     }
     if area.ind / 256 % 16 != 0 {
+        return true;
+    }
+    if is_too_wide(reply_id, area.value) {
         return true;
     }
     if reply_id == 8 {

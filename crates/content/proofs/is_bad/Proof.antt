@@ -5,7 +5,7 @@ use Prim.Native.Nat.{_/_}
 use lib.Dec.{eqb}
 use borrow.Author.Tests.{not-false, eq-eqb, ne-eqb}
 use Rattle.content.specs.Content.{badRows, badReply}
-use Rattle.content.proofs.ContentLaws.{Fitting, bad-by, misfit-bad, fits-room, last-decides}
+use Rattle.content.proofs.ContentLaws.{Fitting, bad-by, last-decides}
 use borrow.Author.Needs.{needs}
 use Rattle.content.proofs.is_bad.Statement.{statement}
 use Rattle.content.proofs.is_bad.Tie as tie
@@ -13,40 +13,42 @@ use Rattle.content.proofs.is_bad.Reads as reads
 use Rattle.content.proofs.is_bad.Lts as lts
 use Rattle.content.proofs.is_filled.Reads as is-filled-reads
 use Rattle.content.proofs.is_known.Reads as is-known-reads
-use Rattle.content.proofs.is_misfit.Reads as is-misfit-reads
+use Rattle.content.proofs.is_cramped.Reads as is-cramped-reads
+use Rattle.content.proofs.is_too_wide.Reads as is-too-wide-reads
 use Rattle.page.proofs.nibble_of.Reads as nibble-of-reads
 
 -- the conditions that were passed
-fitting : (c : tie.Else8) → (let start : tie.Start = search in Fitting (start .args .n) (start .args .asked) (start .args .area))
+fitting : (c : tie.Else9) → (let start : tie.Start = search in Fitting (start .args .n) (start .args .asked) (start .args .area))
 fitting c =
+    let wide : tie.After-is-too-wide = search in
+    let else8 : tie.Else8 = search in
     let else7 : tie.Else7 = search in
     let else6 : tie.Else6 = search in
     let else5 : tie.Else5 = search in
     let nibble : tie.After-nibble-of = search in
     let else4 : tie.Else4 = search in
     let else3 : tie.Else3 = search in
-    let misfit : tie.After-is-misfit = search in
+    let cramped : tie.After-is-cramped = search in
     let else2 : tie.Else2 = search in
     let filled : tie.After-is-filled = search in
     let else1 : tie.Else1 = search in
     let known : tie.After-is-known = search in
     let start : tie.Start = search in
     let a = start .args in
-    let room = fits-room (a .n) (a .asked) (a .area) (sym (misfit .is-misfit .ensures) ∙ else3 .if3 .left) in
     record {
       id-known = sym (known .is-known .ensures) ∙ not-false _ (else1 .if1 .left);
       zero-kept = sym (filled .is-filled .ensures) ∙ else2 .if2 .left;
-      room = room .0;
+      room = sym (cramped .is-cramped .ensures) ∙ else3 .if3 .left;
       base = else4 .if4 .left;
       page = else5 .if5 .left ∙ nibble .nibble-of .ensures;
       index = else6 .if6 .left;
       bit-none = else7 .if7 .left;
-      bits-none = c .if8 .left;
-      word = room .1;
+      bits-none = else8 .if8 .left;
+      word = sym (wide .is-too-wide .ensures) ∙ c .if9 .left;
     }
 
 -- a value after 8 is left
-decided : (c : tie.Else8)
+decided : (c : tie.Else9)
     → (let start : tie.Start = search in let a = start .args in badReply (a .n) (a .asked) (a .area) ≡ (eqb (a .area .pke / 4096) 8 && not (eqb (a .area .value) 0)))
 decided c =
     let start : tie.Start = search in
@@ -78,15 +80,16 @@ returns-2 c =
     let a = start .args in
     sym (bad-by (a .n) (a .asked) (a .area) 1 (sym (filled .is-filled .ensures) ∙ c .if2 .taken))
 
-is-misfit-requires : tie.Need-is-misfit-requires
-is-misfit-requires c κs = search needs
+is-cramped-requires : tie.Need-is-cramped-requires
+is-cramped-requires c κs = search needs
 
 returns-3 : tie.Need-returns-3
+unfolding badRows
 returns-3 c =
-    let misfit : tie.After-is-misfit = search in
+    let cramped : tie.After-is-cramped = search in
     let start : tie.Start = search in
     let a = start .args in
-    sym (misfit-bad (a .n) (a .asked) (a .area) (sym (misfit .is-misfit .ensures) ∙ c .if3 .taken))
+    sym (bad-by (a .n) (a .asked) (a .area) 2 (sym (cramped .is-cramped .ensures) ∙ c .if3 .taken))
 
 returns-4 : tie.Need-returns-4
 unfolding badRows
@@ -133,16 +136,27 @@ returns-8 c =
     let a = start .args in
     sym (bad-by (a .n) (a .asked) (a .area) 7 (rw (ne-eqb _ _ (c .if8 .taken))))
 
+is-too-wide-requires : tie.Need-is-too-wide-requires
+is-too-wide-requires c κs = search needs
+
 returns-9 : tie.Need-returns-9
+unfolding badRows
 returns-9 c =
-    let then9 : tie.Then9 = search in
-    let else8 : tie.Else8 = search in
-    rw (decided else8, eq-eqb _ _ (then9 .if9 .taken))
+    let start : tie.Start = search in
+    let wide : tie.After-is-too-wide = search in
+    let a = start .args in
+    sym (bad-by (a .n) (a .asked) (a .area) 8 (sym (wide .is-too-wide .ensures) ∙ c .if9 .taken))
 
 returns-10 : tie.Need-returns-10
 returns-10 c =
-    let else8 : tie.Else8 = search in
-    rw (decided else8, ne-eqb _ _ (c .if9 .left))
+    let then10 : tie.Then10 = search in
+    let else9 : tie.Else9 = search in
+    rw (decided else9, eq-eqb _ _ (then10 .if10 .taken))
+
+returns-11 : tie.Need-returns-11
+returns-11 c =
+    let else9 : tie.Else9 = search in
+    rw (decided else9, ne-eqb _ _ (c .if10 .left))
 
 pub is-bad-spec : {M : Type 1} → statement M
 is-bad-spec =
@@ -153,7 +167,7 @@ is-bad-spec =
     returns
     is-filled-requires
     returns-2
-    is-misfit-requires
+    is-cramped-requires
     returns-3
     returns-4
     nibble-of-requires
@@ -163,5 +177,7 @@ is-bad-spec =
     returns-6
     returns-7
     returns-8
+    is-too-wide-requires
     returns-9
-    returns-10)
+    returns-10
+    returns-11)
