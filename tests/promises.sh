@@ -2,8 +2,9 @@
 # Compares the pages with the sources. docs/PROMISES.md: no public function has a `requires`; every one has a row, with at least two
 # must-fail edits of its own crate (an `extern "C"` function, which hands on to another, at least one) and its own instances of
 # claims_results, one for the result and one for each slice lent for writing; every row names a function, and every edit of the
-# repository is named on the page. docs/PROMISES.md, docs/DECISIONS.md and docs/DAMAGE.md: each name that is given with its crate and
-# file stands there. Exits 1 where one of these does not hold.
+# repository is named on the page, says in its second line at which fact it fails, and changes no proof. docs/PROMISES.md,
+# docs/DECISIONS.md, docs/DAMAGE.md and docs/HOUSE.md: each name that is given with its crate and file stands there. Exits 1 where
+# one of these does not hold.
 set -euo pipefail
 cd "$(dirname "$0")/.."
 page=docs/PROMISES.md
@@ -106,6 +107,8 @@ for file in crates/*/must-fail/*.edit; do
     edits=$((edits + 1))
     edit="$(basename "$file" .edit)"
     grep -qE "(^|[^a-z_0-9])$edit([^a-z_0-9]|\$)" "$page" || wrong "the edit $file is not named"
+    sed -n 2p "$file" | grep -q '^# fails at: ' || wrong "the second line of $file does not say at which fact it fails"
+    ! grep -q '^file: proofs/' "$file" || wrong "$file changes a proof"
 done
 
 # places PAGE: the names that are given with crate and file, as in `name`, `name` (crate, File) and (`name`; crate, File): a line
@@ -129,7 +132,7 @@ stands() {
 }
 
 named=0
-for text in docs/PROMISES.md docs/DECISIONS.md docs/DAMAGE.md; do
+for text in docs/PROMISES.md docs/DECISIONS.md docs/DAMAGE.md docs/HOUSE.md; do
     while read -r crate file names; do
         for name in $names; do
             named=$((named + 1))
