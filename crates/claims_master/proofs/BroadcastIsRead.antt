@@ -32,12 +32,13 @@ use Rattle.broadcast.proofs.VoidLaws.{not-void-commands}
 use Rattle.control.specs.Control.{firstWord, processIn, commandAt, voidIn}
 use Rattle.request.specs.declared.Request.the-variants.{Broadcast}
 use Rattle.request.specs.Request.{unusedZero, commandOf, expressible}
-use Rattle.slave.specs.Slave.{Call, netIn, Outcome}
+use Rattle.slave.specs.Slave.{Call, receiving, netIn, Outcome}
 use Rattle.answers.specs.declared.Answer.the-variants.{Taken}
 use Rattle.slave.proofs.CaseLaws.{executed, broadcast-taken}
-use Rattle.master.specs.Build.{commandArea, netFor, telegramFor}
+use Rattle.master.specs.Build.{commandArea, commandCount, netFor, telegramFor}
+use Rattle.master.proofs.BuildLaws.{command-counted}
 use Rattle.claims_master.specs.Claims.{atNode, BroadcastRead}
-use Rattle.claims_master.proofs.SentLaws.{receiving, net-some, net-fits, own-count}
+use Rattle.claims_master.proofs.SentLaws.{net-some, net-fits, own-count}
 
 -- the words of a command's area
 command-words : (t : List ℕ) (n selector mask1 mask2 : ℕ) → Wide n → mask2 < 65536 → Stands t 3 (fixedWords n (commandArea n selector mask1 mask2))
@@ -68,11 +69,15 @@ module _ (k : Call) (selector mask1 mask2 : ℕ) (process : Words) where
   abbrev s : Setup
   s = k .setup
 
+  -- the words of the area
+  abbrev p : ℕ
+  p = commandCount s
+
   abbrev a : Area
-  a = commandArea (s .pkw) selector mask1 mask2
+  a = commandArea p selector mask1 mask2
 
   abbrev rx : List ℕ
-  rx = telegramOf 32 (netFor s a process)
+  rx = telegramOf 32 (netFor s p a process)
 
   -- the master's node is not looked at, nor the slave's
   broadcast-read : (node : ℕ) → Configured (atNode node s) → isVoid (commandOf selector mask1 mask2) (s .pkw) (s .pzd) (process .w1) ≡ false → mask1 < 65536 → mask2 < 65536 → Worded process
@@ -80,19 +85,20 @@ module _ (k : Call) (selector mask1 mask2 : ℕ) (process : Words) where
   unfolding commandArea
   broadcast-read node c v m1 m2 g =
       let n = netIn rx in
+      let counted = command-counted (atNode node s) in
       let f = not-void-commands (commandOf selector mask1 mask2) (s .pkw) (s .pzd) (process .w1) v in
       let h : Headed a = record { pke-word = omega (arith, f .selects); ind-word = m1 } in
       let d : decodedOf rx ≡ BroadcastTelegram =
-      telegram-decoded 32 (netFor s a process) (net-some (atNode node s) c a process) (net-fits (atNode node s) c a process)
-      ∙ ap (λ (x : Address). kindOf x (length (netFor s a process) + 3)) to-all in
-      let own = own-count (atNode node s) c a process 32 in
-      let sized = area-sized (atNode node s) c in
-      let said = command-words rx (s .pkw) selector mask1 mask2 (area-wide (atNode node s) c (f .areas)) m2 (area-stands 32 a (s .pkw) process (s .pzd) h g) in
+      telegram-decoded 32 (netFor s p a process) (net-some (atNode node s) p c counted a process) (net-fits (atNode node s) p c counted a process)
+      ∙ ap (λ (x : Address). kindOf x (length (netFor s p a process) + 3)) to-all in
+      let own = own-count (atNode node s) p c counted a process 32 in
+      let sized = area-sized (atNode node s) n c in
+      let said = command-words rx p selector mask1 mask2 (area-wide (atNode node s) n c (f .areas)) m2 (area-stands 32 a p process (s .pzd) h g) in
       let words : (old : Words) → processIn s n old rx ≡ firstWords (s .pzd) process old =
-      λ old. process-back 32 a (s .pkw) process (s .pzd) h g old sized (c .process) in
+      λ old. process-back 32 a p process (s .pzd) h g old sized (c .process) in
       let some : 0 < s .pzd = let z = f .process in omega arith in
       let one : firstWord s n rx ≡ process .w1 =
-      process-word 32 a (s .pkw) process (s .pzd) h g 0 (s .pkw * 2 + 3) sized some (c .process) (omega arith) in
+      process-word 32 a p process (s .pzd) h g 0 (p * 2 + 3) sized some (c .process) (omega arith) in
       let sound : voidIn s n rx ≡ false = rw (said, one) v in
       record {
         decoded = d;

@@ -18,8 +18,8 @@ use Rattle.request.specs.declared.Request.the-variants.{Task, Mirror, Broadcast
 use Rattle.request.specs.Request.{expressible}
 use Rattle.request.proofs.RequestLaws.{mirror-asked}
 use Rattle.answers.specs.declared.BuildAnswer.the-variants.{Done}
-use Rattle.master.specs.Build.{taskArea, commandArea, netFor, telegramFor, sent, builtOf}
-use Rattle.master.proofs.BuildLaws.{done-buildable}
+use Rattle.master.specs.Build.{taskArea, commandArea, taskCount, commandCount, netFor, telegramFor, sent, builtOf}
+use Rattle.master.proofs.BuildLaws.{done-buildable, task-counted, command-counted}
 use Rattle.claims_master.specs.Claims.{SoundBuild}
 use Rattle.claims_master.proofs.SentLaws.{net-some, net-fits}
 
@@ -39,12 +39,14 @@ unfolding telegramFor
 request-sound s (Task id number index value process) net ok asked =
     let c = ok-configured s ok in
     let a = taskArea id number index value in
-    telegram-sound (s .node) (netFor s a process) (net-some s c a process) (net-fits s c a process)
+    let k = taskCount s id in
+    telegram-sound (s .node) (netFor s k a process) (net-some s k c (task-counted s id) a process) (net-fits s k c (task-counted s id) a process)
 request-sound s Mirror net ok asked = telegram-sound (s .node + 64) net (mirror-asked s net asked .0) (mirror-asked s net asked .1)
 request-sound s (Broadcast selector mask1 mask2 process) net ok asked =
     let c = ok-configured s ok in
-    let a = commandArea (s .pkw) selector mask1 mask2 in
-    telegram-sound 32 (netFor s a process) (net-some s c a process) (net-fits s c a process)
+    let k = commandCount s in
+    let a = commandArea k selector mask1 mask2 in
+    telegram-sound 32 (netFor s k a process) (net-some s k c (command-counted s) a process) (net-fits s k c (command-counted s) a process)
 
 -- what a telegram at the front of a buffer leaves
 sent-passes : (s : Setup) (r : Request) (net out : List ℕ) → SoundTelegram (telegramFor s r net) → 256 ≤ length out → SoundBuild s r net out (sent (telegramFor s r net) out)

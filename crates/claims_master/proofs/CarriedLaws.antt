@@ -2,7 +2,7 @@
 use mathlib.Core.Path.{_≡_}
 use mathlib.Core.Logic.{_⊎_, inl, inr}
 use mathlib.Core.Bool.{true, false≢true}
-use Prim.Native.Nat.{ℕ, _-_, _^_, _≤_, _<_}
+use Prim.Native.Nat.{ℕ, _+_, _-_, _*_, _^_, _≤_, _<_}
 use native.Mathlib.Omega.{arith}
 use borrow.Author.Tests.{eqb-true, leb-true}
 use Rattle.setup.specs.declared.Setup.{Setup}
@@ -16,7 +16,7 @@ use Rattle.task.specs.Task.{taskOf}
 use Rattle.page.proofs.PageLaws.{nibble-small}
 use Rattle.request.specs.Request.{valueFits, taskFits}
 use Rattle.request.proofs.RequestLaws.{AllZero, Asked, task-asked, asked-id}
-use Rattle.master.specs.Build.{taskArea}
+use Rattle.master.specs.Build.{taskArea, taskCount}
 
 -- in three words a value of one word
 word-carried : (act : Act) (width : Width) (v : ℕ) → valueFits act width 3 v ≡ true → v < 65536
@@ -41,7 +41,7 @@ pub record CarriedTask (s : Setup) (id number index value : ℕ) : Type 0 where
   pub numbers : number ≤ 31999
   pub indices : index < 256
   pub heads : Headed (taskArea id number index value)
-  pub fits : (s .pkw ≡ 0 → ⊥) → value < 65536 ^ (s .pkw - 2)
+  pub fits : (taskCount s id ≡ 0 → ⊥) → value < 65536 ^ (taskCount s id - 2)
 
 pub carried-of : (s : Setup) (id number index value : ℕ) → Configured s → taskFits (s .pkw) id number index value ≡ true → value < 4294967296 → CarriedTask s id number index value
 unfolding taskArea
@@ -61,7 +61,7 @@ carried-of s id number index value c h v = go (task-asked (s .pkw) id number ind
           numbers = omega (arith, e .1 .number-none);
           indices = i;
           heads = heads-of i;
-          fits = λ p. value-fits (s .pkw) value (area-wide s c p) (λ q. omega (arith, e .1 .value-none)) v;
+          fits = λ p. value-fits (taskCount s id) value (area-wide s ((taskCount s id + s .pzd) * 2) c p) (λ q. omega (arith, e .1 .value-none)) v;
         }
     go (inr a) =
         let i : index < 256 = omega (arith, a .indices) in
@@ -70,5 +70,5 @@ carried-of s id number index value c h v = go (task-asked (s .pkw) id number ind
           numbers = a .numbers;
           indices = i;
           heads = heads-of i;
-          fits = λ p. value-fits (s .pkw) value (area-wide s c p) (λ q. word-carried (taskOf id .act) (taskOf id .width) value (rw q at (a .values))) v;
+          fits = λ p. value-fits (taskCount s id) value (area-wide s ((taskCount s id + s .pzd) * 2) c p) (λ q. word-carried (taskOf id .act) (taskOf id .width) value (rw q at (a .values))) v;
         }

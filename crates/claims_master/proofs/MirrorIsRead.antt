@@ -15,11 +15,10 @@ use Rattle.net.proofs.SealLaws.{net-back, telegram-decoded}
 use Rattle.request.specs.declared.Request.the-variants.{Mirror}
 use Rattle.request.specs.Request.{expressible}
 use Rattle.request.proofs.RequestLaws.{mirror-asked}
-use Rattle.slave.specs.Slave.{Call}
+use Rattle.slave.specs.Slave.{Call, receiving}
 use Rattle.slave.proofs.CaseLaws.{executed, mirror-sent}
 use Rattle.master.specs.Build.{telegramFor}
 use Rattle.claims_master.specs.Claims.{MirrorRead}
-use Rattle.claims_master.proofs.SentLaws.{receiving}
 
 module _ (k : Call) (net : List ℕ) where
   pub mirror-is-read : setupOk (k .setup) ≡ true → expressible (k .setup) Mirror net ≡ true → k .received ≡ telegramFor (k .setup) Mirror net → MirrorRead k net

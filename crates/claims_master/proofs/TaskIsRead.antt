@@ -9,8 +9,8 @@ use lib.Dec.{eqb}
 use Rattle.rows.proofs.BoolLaws.{and-left}
 use Rattle.words.specs.declared.Words.{Words}
 use Rattle.setup.specs.declared.Setup.{Setup}
-use Rattle.setup.specs.SetupRules.{setupOk, otherLength}
-use Rattle.setup.proofs.SetupLaws.{Configured, ok-configured, area-few, area-sized, area-words, node-own}
+use Rattle.setup.specs.SetupRules.{setupOk, areaCount, otherLength}
+use Rattle.setup.proofs.SetupLaws.{Configured, ok-configured, area-few, area-sized, area-words, Counted, node-own}
 use Rattle.frame.specs.Address.{decodedOf}
 use Rattle.frame.specs.declared.Decoded.the-variants.{Normal}
 use Rattle.area.specs.declared.Area.{Area}
@@ -23,18 +23,22 @@ use Rattle.opening.specs.Lent.{Memory}
 use Rattle.control.specs.Control.{firstWord, processIn, controlTaken}
 use Rattle.request.specs.declared.Request.the-variants.{Task}
 use Rattle.request.specs.Request.{unusedZero, taskFits, expressible}
-use Rattle.slave.specs.Slave.{Call, netIn, executeOf, normalOutcome}
+use Rattle.slave.specs.Slave.{Call, receiving, netIn, executeOf, normalOutcome}
 use Rattle.slave.specs.Perform.{replying, planIn, planAt, carriedOut, performOf, taskDone}
 use Rattle.slave.proofs.CaseLaws.{executed, normal-replied}
-use Rattle.master.specs.Build.{taskArea, netFor, telegramFor}
+use Rattle.master.specs.Build.{taskArea, taskCount, netFor, telegramFor}
+use Rattle.master.proofs.BuildLaws.{task-counted}
 use Rattle.claims_master.specs.Claims.{TaskRead}
-use Rattle.claims_master.proofs.SentLaws.{receiving, own-count, normal-decoded}
+use Rattle.claims_master.proofs.SentLaws.{own-count, normal-decoded}
 use Rattle.claims_master.proofs.CarriedLaws.{CarriedTask, carried-of}
 
--- an area of three or four words comes back
-pub normal-area : (s : Setup) (c : Configured s) (a : Area) (w : Words) → Headed a → Worded w → (s .pkw ≡ 0 → ⊥) → a .value < 65536 ^ (s .pkw - 2)
-    → areaAt (telegramOf (s .node) (netFor s a w)) (s .pkw) ≡ a
-normal-area s c a w h g p fits = area-back (s .node) a (s .pkw) w (s .pzd) h g (area-words s c p .0) (area-few s c) fits
+-- an area of k words comes back
+pub normal-area : (s : Setup) (k : ℕ) (c : Configured s) → Counted s k → (a : Area) (w : Words) → Headed a → Worded w → (k ≡ 0 → ⊥) → a .value < 65536 ^ (k - 2)
+    → areaAt (telegramOf (s .node) (netFor s k a w)) k ≡ a
+normal-area s k c counted a w h g p fits =
+    let n = (k + s .pzd) * 2 in
+    let q : areaCount s n ≡ 0 → ⊥ = λ z. p (sym counted ∙ z) in
+    area-back (s .node) a k w (s .pzd) h g (omega (arith, counted, area-words s n c q .0)) (omega (arith, counted, area-few s n c)) fits
 
 control-of : (z : Bool) (x y : ℕ) (p q control : Words) → (z ≡ false → x ≡ y) → p ≡ q
     → cond (not z && eqb (x / 1024 % 2) 1) p control ≡ cond (not z && eqb (y / 1024 % 2) 1) q control
@@ -77,20 +81,24 @@ module _ (k : Call) (id number index value : ℕ) (process : Words) where
   abbrev a : Area
   a = taskArea id number index value
 
+  -- the words of the area
+  abbrev p : ℕ
+  p = taskCount s id
+
   abbrev rx : List ℕ
-  rx = telegramOf (s .node) (netFor s a process)
+  rx = telegramOf (s .node) (netFor s p a process)
 
   task-read : Configured s → CarriedTask s id number index value → Worded process → TaskRead (receiving k rx) id number index value process
   unfolding taskArea
   task-read c f g =
       let n = netIn rx in
-      let d = normal-decoded s c a process in
-      let own = own-count s c a process (s .node) in
-      let back : (s .pkw ≡ 0 → ⊥) → areaAt rx (s .pkw) ≡ a = λ p. normal-area s c a process (f .heads) g p (f .fits p) in
+      let d = normal-decoded s p c (task-counted s id) a process in
+      let own = own-count s p c (task-counted s id) a process (s .node) in
+      let back : (p ≡ 0 → ⊥) → areaAt rx p ≡ a = λ z. normal-area s p c (task-counted s id) a process (f .heads) g z (f .fits z) in
       let words : (old : Words) → processIn s n old rx ≡ firstWords (s .pzd) process old =
-      λ old. process-back (s .node) a (s .pkw) process (s .pzd) (f .heads) g old (area-sized s c) (c .process) in
+      λ old. process-back (s .node) a p process (s .pzd) (f .heads) g old (area-sized s n c) (c .process) in
       let one : 0 < s .pzd → firstWord s n rx ≡ process .w1 =
-      λ p. process-word (s .node) a (s .pkw) process (s .pzd) (f .heads) g 0 (s .pkw * 2 + 3) (area-sized s c) p (c .process) (omega arith) in
+      λ z. process-word (s .node) a p process (s .pzd) (f .heads) g 0 (p * 2 + 3) (area-sized s n c) z (c .process) (omega arith) in
       record {
         decoded = d;
         own-length = own;
@@ -103,7 +111,7 @@ module _ (k : Call) (id number index value : ℕ) (process : Words) where
         process-is = words;
         first = one;
         served = normal-served (receiving k rx) d own;
-        performed = task-of (s .pkw) (k .table) (k .memory) rx a back;
+        performed = task-of p (k .table) (k .memory) rx a back;
         controlled = control-taken s n rx process (k .control) one (words (k .control));
       }
 

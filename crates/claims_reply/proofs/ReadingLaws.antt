@@ -6,7 +6,8 @@ use native.Mathlib.Omega.{arith}
 use borrow.Author.Tests.{eq-eqb, ne-eqb}
 use Rattle.words.specs.declared.Words.{Words}
 use Rattle.setup.specs.declared.Setup.{Setup}
-use Rattle.setup.proofs.SetupLaws.{Configured, area-sized, node-own}
+use Rattle.setup.specs.SetupRules.{areaCount}
+use Rattle.setup.proofs.SetupLaws.{Configured, area-sized, Counted, node-own}
 use Rattle.frame.specs.declared.Decoded.{Decoded}
 use Rattle.area.specs.declared.Area.{Area}
 use Rattle.area.specs.Read.{Worded, firstWords}
@@ -24,9 +25,17 @@ use Rattle.claims_master.proofs.SentLaws.{own-count, normal-decoded}
 use Rattle.claims_master.proofs.TaskIsRead.{normal-area}
 use Rattle.claims_reply.proofs.ReplyLaws.{Replies}
 
-module _ (s : Setup) (c : Configured s) (p : Area) (status : Words) (heads : Headed p) (words : Worded status) (q : Question) where
+-- m are the net bytes of the telegram that is answered
+module _ (s : Setup) (m : ℕ) (c : Configured s) (p : Area) (status : Words) (heads : Headed p) (words : Worded status) (q : Question) where
+  -- the words of the area
+  abbrev w : ℕ
+  w = areaCount s m
+
+  reply-counted : Counted s w
+  reply-counted = refl
+
   abbrev replyTelegram : List ℕ
-  replyTelegram = telegramOf (s .node) (netFor s p status)
+  replyTelegram = telegramOf (s .node) (netFor s w p status)
 
   abbrev n : ℕ
   n = netIn replyTelegram
@@ -35,31 +44,31 @@ module _ (s : Setup) (c : Configured s) (p : Area) (status : Words) (heads : Hea
   unfolding readTask
   read-is =
       let same : n + 3 - 3 ≡ n = omega arith in
-      ap (λ (d : Decoded). readDecoded d s q replyTelegram) (normal-decoded s c p status) ∙ ap (λ (m : ℕ). readNormal s q replyTelegram (s .node) m) same
+      ap (λ (d : Decoded). readDecoded d s q replyTelegram) (normal-decoded s w c reply-counted p status) ∙ ap (λ (x : ℕ). readNormal s q replyTelegram (s .node) x) same
 
   -- without an area
-  pub read-none : s .pkw ≡ 0 → readTask s q replyTelegram ≡ record { answer = Read Empty; process = firstWords (s .pzd) status zeroWords }
+  pub read-none : w ≡ 0 → readTask s q replyTelegram ≡ record { answer = Read Empty; process = firstWords (s .pzd) status zeroWords }
   unfolding readNormal
   read-none e =
       read-is
       ∙ rw (
         node-own s (s .node) refl,
-        own-count s c p status (s .node),
-        eq-eqb (s .pkw) 0 e,
-        process-back (s .node) p (s .pkw) status (s .pzd) heads words zeroWords (area-sized s c) (c .process),
+        own-count s w c reply-counted p status (s .node),
+        eq-eqb w 0 e,
+        process-back (s .node) p w status (s .pzd) heads words zeroWords (area-sized s n c) (c .process),
       )
 
   -- with an area that is a reply to the task
-  pub read-area : (s .pkw ≡ 0 → ⊥) → Replies (s .pkw) q p
+  pub read-area : (w ≡ 0 → ⊥) → Replies w q p
       → readTask s q replyTelegram ≡ record { answer = Read (replyContent (q .id) p); process = firstWords (s .pzd) status zeroWords }
   unfolding readNormal
   read-area some r =
       read-is
       ∙ rw (
         node-own s (s .node) refl,
-        own-count s c p status (s .node),
-        ne-eqb (s .pkw) 0 some,
-        normal-area s c p status heads words some (r .fits),
+        own-count s w c reply-counted p status (s .node),
+        ne-eqb w 0 some,
+        normal-area s w c reply-counted p status heads words some (r .fits),
         r .good,
-        process-back (s .node) p (s .pkw) status (s .pzd) heads words zeroWords (area-sized s c) (c .process),
+        process-back (s .node) p w status (s .pzd) heads words zeroWords (area-sized s n c) (c .process),
       )

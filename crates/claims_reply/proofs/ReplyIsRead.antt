@@ -57,7 +57,7 @@ module _ (k : Call) (id number index value : ℕ) (c : Configured (k .setup)) (p
   idle-replies : (s .pkw ≡ 0 → ⊥) → id ≡ 0 → AllZero number index value → Replies (s .pkw) q done
   unfolding planIn taskArea
   idle-replies some e z =
-      rw (e, z .number-none, z .index-none) (empty-replies (s .pkw) (area-wide s c some))
+      rw (e, z .number-none, z .index-none) (empty-replies (s .pkw) (area-wide s (netIn (k .received)) c some))
 
   asked-replies : (s .pkw ≡ 0 → ⊥) → Asked (s .pkw) id number index value → Replies (s .pkw) q done
   unfolding taskArea
@@ -65,7 +65,7 @@ module _ (k : Call) (id number index value : ℕ) (c : Configured (k .setup)) (p
       let f = carried-of s id number index value c fits v in
       let back : a .pke / 4096 ≡ id = id-back id number in
       let held = subst (λ (i : ℕ). valueFits (taskOf i .act) (taskOf i .width) (s .pkw) value ≡ true) (sym back) (asked .values) in
-      let r = task-answers (lentBy k) (s .pkw) a (area-wide s c some) v small held passed (λ e. asked .some (sym back ∙ e)) in
+      let r = task-answers (lentBy k) (s .pkw) a (area-wide s (netIn (k .received)) c some) v small held passed (λ e. asked .some (sym back ∙ e)) in
       let is = r .is ∙ reply-echoes id number index value (r .reply-id) (r .content) (f .numbers) (f .indices) in
       rw is (suited-replies (s .pkw) id number index (r .reply-id) (r .content) (asked .some) (f .numbers) (f .indices) (subst (λ (i : ℕ). Suits (s .pkw) i (r .reply-id) (r .content)) back (r .suits)))
 
@@ -96,13 +96,13 @@ module _ (k : Call) (id number index value : ℕ) (process : Words) (net : List 
       go true e =
           let is : areaDone k ≡ emptyArea = ap (λ (x : Performed). x .area) (t .performed) ∙ ap (λ (b : Bool). cond b none did .area) e in
           let h : Headed emptyArea = record { pke-word = lit< tt; ind-word = lit< tt } in
-          let read = read-none (k .setup) c emptyArea (k .status) h g (asking id number index) (eqb-true (k .setup .pkw) 0 e) in
+          let read = read-none (k .setup) (netIn (k .received)) c emptyArea (k .status) h g (asking id number index) (eqb-true (k .setup .pkw) 0 e) in
           rw (is, read) (record { number-is = refl; id-is = ap (λ (x : Area). x .pke / 4096) (sym is); value-is = ap (λ (x : Area). x .value) (sym is); process-is = refl; not-8 = λ z. omega arith })
       go false e =
           let some = eqb-false (k .setup .pkw) 0 e in
           let is : areaDone k ≡ did .area = ap (λ (x : Performed). x .area) (t .performed) ∙ ap (λ (b : Bool). cond b none did .area) e in
           let r = performed-replies k id number index value c passed fits v small some in
-          let read = read-area (k .setup) c (did .area) (k .status) (r .heads) g (asking id number index) some r in
+          let read = read-area (k .setup) (netIn (k .received)) c (did .area) (k .status) (r .heads) g (asking id number index) some r in
           rw (is, read) (record {
             number-is = refl;
             id-is = r .same-id ∙ ap (λ (x : Area). x .pke / 4096) (sym is);

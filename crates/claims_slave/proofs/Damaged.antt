@@ -20,9 +20,9 @@ use Rattle.frame.proofs.FrameLaws.{sound-framed}
 use Rattle.opening.specs.declared.Opening.the-variants.{Passed}
 use Rattle.claims_damage.specs.Damage.{Refuses, damaged, Damage, flips, Unseen, Hit, OneByte, Order, Burst}
 use Rattle.claims_damage.proofs.Seen.{exact, not-passing-refused, odd-seen, one-byte-seen, burst-seen, first-hit-seen, second-hit-seen}
-use Rattle.slave.specs.Slave.{Call, Outcome, openingAt, callOf}
+use Rattle.slave.specs.Slave.{Call, receiving, Outcome, openingAt, callOf}
 use Rattle.slave.proofs.CaseLaws.{executed, called}
-use Rattle.claims_slave.specs.Outcomes.{FrameRefused, PastFrame, receiving}
+use Rattle.claims_slave.specs.Outcomes.{FrameRefused, PastFrame}
 use Rattle.claims_slave.proofs.AnswerTable.{beyond-frame}
 
 -- no call is refused in frame and past the frame check

@@ -108,7 +108,7 @@ module _ (l : Lent) (passed : openingOf l ≡ Passed) where
 -- a reply has the words of its areas, and four more bytes
 pub reply-long : (s : Setup) (n : ℕ) (a : Area) (status : Words) → Configured s → length (replyOf s n a status) ≡ (areaCount s n + s .pzd) * 2 + 4
 unfolding replyOf
-reply-long s n a status c = omega (arith, length-normal a (areaCount s n) status (s .pzd) (c .process) (area-sized s c) (s .node))
+reply-long s n a status c = omega (arith, length-normal a (areaCount s n) status (s .pzd) (c .process) (area-sized s n c) (s .node))
 
 -- ---- the next call passes the opening check too
 
@@ -123,7 +123,7 @@ module _ (k : Call) where
       let n = netIn (k .received) in
       call-cases k (λ r. length (r .reply) ≡ length (k .buffer))
       (λ r b. refl)
-      (λ q d l. written-long (k .buffer) (replyAt n k) (omega (arith, reply-long (k .setup) n (taskAt n k .area) (k .status) c, o .buffer, c .process, area-few (k .setup) c)))
+      (λ q d l. written-long (k .buffer) (replyAt n k) (omega (arith, reply-long (k .setup) n (taskAt n k .area) (k .status) c, o .buffer, c .process, area-few (k .setup) n c)))
       (λ q d. let f = telegram-framed (k .received) (Mirror (k .setup .node)) d refl in
       written-long (k .buffer) (k .received) (omega (arith, f .counted .count, f .counted .high, o .buffer)))
       (λ q d l v. refl)

@@ -61,7 +61,7 @@ module _ (k : Call) where
       let rl = reply-long (k .setup) n a (k .status) c in
       let long : length net ≡ n = omega (arith, length-telegram (k .setup .node) net, rl, own) in
       let frame : frameOf (replyAt n k) ≡ Sound (lastOf (k .received)) =
-      telegram-passes (k .setup .node) net (omega (arith, f .counted .long)) (omega (arith, own, c .process, area-few (k .setup) c)) ∙ ap Sound (omega (arith, f .counted .long)) in
+      telegram-passes (k .setup .node) net (omega (arith, f .counted .long)) (omega (arith, own, c .process, area-few (k .setup) n c)) ∙ ap Sound (omega (arith, f .counted .long)) in
       let sent = written-first (k .buffer) (replyAt n k) in
       rw (replied-call k (h .0) (h .1) (h .2))
       (record {

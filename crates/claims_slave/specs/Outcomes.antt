@@ -5,7 +5,6 @@
 --     SameReply o k          the received telegram, byte for byte, and no other byte written
 --     FrameRefused o k       refused with 10 to 14, and untouched
 --     PastFrame o            the answer's number is none of 10 to 14 (NotFrame)
---     receiving k rx         the same call with other bytes received
 --     areaIn k               the received parameter area
 --     GrantedChange k j      the call asks for a change of a value of record j, and no error applies
 --     placeIn k j            the place that it means
@@ -68,10 +67,6 @@ NotFrame n = (n < 10) ⊎ (14 < n)
 
 abbrev pub PastFrame : Outcome → Type 0
 PastFrame o = NotFrame (answerNumber (o .served .answer))
-
-abbrev pub receiving : Call → List ℕ → Call
-receiving k rx =
-    record { setup = k .setup; table = k .table; memory = k .memory; control = k .control; status = k .status; received = rx; buffer = k .buffer }
 
 -- ---- a change that is made
 

@@ -1,17 +1,17 @@
 -- A telegram that is built has at most 256 bytes, so its length fits in 32 bits. Assumes nothing.
-use mathlib.Core.Path.{_≡_, refl}
+use mathlib.Core.Path.{_≡_, refl, subst}
 use mathlib.Core.Bool.{true}
 use mathlib.Core.List.{List}
-use Prim.Native.Nat.{ℕ, _+_, _≤_}
+use Prim.Native.Nat.{ℕ, _+_, _*_, _≤_}
 use native.Mathlib.Omega.{arith}
 use lib.Dec.{lit≤}
 use lib.ListN.{length}
 use Rattle.words.specs.declared.Words.{Words}
 use Rattle.setup.specs.declared.Setup.{Setup}
-use Rattle.setup.proofs.SetupLaws.{Configured, ok-configured, area-few, area-sized}
+use Rattle.setup.proofs.SetupLaws.{Configured, ok-configured, area-few, area-sized, Counted}
 use Rattle.area.specs.declared.Area.{Area}
 use Rattle.area.specs.Net.{fixedWords, processWords}
-use Rattle.area.proofs.WordLaws.{length-fixed, length-process}
+use Rattle.area.proofs.WordLaws.{Sized, length-fixed, length-process}
 use Rattle.net.specs.Telegram.{telegramOf}
 use Rattle.net.proofs.SealLaws.{length-telegram}
 use Rattle.net.proofs.NetLaws.{length-sent}
@@ -22,26 +22,28 @@ use Rattle.request.proofs.RequestLaws.{mirror-asked}
 use Rattle.answers.specs.declared.BuildAnswer.{BuildAnswer}
 use Rattle.answers.specs.declared.BuildAnswer.the-variants.{Done, Refused}
 use Rattle.master.specs.declared.Built.{Built}
-use Rattle.master.specs.Build.{taskArea, commandArea, netFor, telegramFor, outcomeOf, admitted, Builds, builtOf}
-use Rattle.master.proofs.BuildLaws.{done-admitted}
+use Rattle.master.specs.Build.{taskArea, commandArea, taskCount, commandCount, netFor, telegramFor, outcomeOf, admitted, Builds, builtOf}
+use Rattle.master.proofs.BuildLaws.{done-admitted, task-counted, command-counted}
 
 module _ (s : Setup) (c : Configured s) where
-  net-most : (adr : ℕ) (a : Area) (w : Words) → length (telegramOf adr (netFor s a w)) ≤ 256
-  net-most adr a w =
+  net-most : (k adr : ℕ) (a : Area) (w : Words) → Counted s k → length (telegramOf adr (netFor s k a w)) ≤ 256
+  net-most k adr a w counted =
+      let n = (k + s .pzd) * 2 in
       omega (
         arith,
-        length-sent adr (fixedWords (s .pkw) a) (processWords (s .pzd) w),
-        length-fixed (s .pkw) a (area-sized s c),
+        length-sent adr (fixedWords k a) (processWords (s .pzd) w),
+        length-fixed k a (subst Sized counted (area-sized s n c)),
         length-process (s .pzd) w (c .process),
-        area-few s c,
+        counted,
+        area-few s n c,
         c .process,
       )
 
   telegram-most : (r : Request) (net : List ℕ) → expressible s r net ≡ true → length (telegramFor s r net) ≤ 256
   unfolding telegramFor
-  telegram-most (Task id number index value process) net e = net-most (s .node) (taskArea id number index value) process
+  telegram-most (Task id number index value process) net e = net-most (taskCount s id) (s .node) (taskArea id number index value) process (task-counted s id)
   telegram-most Mirror net e = omega (arith, length-telegram (s .node + 64) net, mirror-asked s net e .1)
-  telegram-most (Broadcast selector mask1 mask2 process) net e = net-most 32 (commandArea (s .pkw) selector mask1 mask2) process
+  telegram-most (Broadcast selector mask1 mask2 process) net e = net-most (commandCount s) 32 (commandArea (commandCount s) selector mask1 mask2) process (command-counted s)
 
 pub built-most : (s : Setup) (r : Request) (net out : List ℕ) → builtOf s r net out .built .length ≤ 256
 unfolding builtOf

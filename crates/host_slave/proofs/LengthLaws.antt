@@ -28,13 +28,13 @@ use Rattle.slave.specs.Slave.{Call, Leaves, lentBy, openingAt, replyOf, taskAt,
 use Rattle.slave.proofs.CaseLaws.{normal-other-node, normal-other-length, normal-replied, mirror-other-node, mirror-sent, broadcast-other-length, broadcast-void, broadcast-taken, executed, called}
 
 -- the reply of a telegram with n net bytes has n of them too
-reply-long : (s : Setup) (n : ℕ) (a : Area) (status : Words) → Configured s → otherLength s n ≡ false → length (replyOf s n a status) ≡ n + 4
+reply-as-long : (s : Setup) (n : ℕ) (a : Area) (status : Words) → Configured s → otherLength s n ≡ false → length (replyOf s n a status) ≡ n + 4
 unfolding replyOf
-reply-long s n a status c own =
+reply-as-long s n a status c own =
     omega (
       arith,
       length-sent (s .node) (fixedWords (areaCount s n) a) (processWords (s .pzd) status),
-      length-fixed (areaCount s n) a (area-sized s c),
+      length-fixed (areaCount s n) a (area-sized s n c),
       length-process (s .pzd) status (c .process),
       own-words s n own,
     )
@@ -46,7 +46,7 @@ module _ (k : Call) where
       go : (x y : Bool) → otherNode (k .setup) node ≡ x → otherLength (k .setup) n ≡ y → normalCase node n k .served .length ≤ 256
       go true y e f = rw (normal-other-node node n k e) (lit≤ tt)
       go false true e f = rw (normal-other-length node n k e f) (lit≤ tt)
-      go false false e f = rw (normal-replied node n k e f) (omega (arith, reply-long (k .setup) n (taskAt n k .area) (k .status) c f))
+      go false false e f = rw (normal-replied node n k e f) (omega (arith, reply-as-long (k .setup) n (taskAt n k .area) (k .status) c f))
 
   mirror-most : (node : ℕ) → length (k .received) ≤ 256 → mirrorCase node k .served .length ≤ 256
   mirror-most node few = go (otherNode (k .setup) node) refl

@@ -1,8 +1,8 @@
 -- What the tests 30, 31, 32 say of a build: one law for every request; and that a telegram is sent as written. Assumes nothing.
-use mathlib.Core.Path.{_≡_, refl, sym, ap, _∙_}
+use mathlib.Core.Path.{_≡_, refl, sym, ap, subst, _∙_}
 use mathlib.Core.Bool.{Bool, true, false, not}
 use mathlib.Core.List.{List}
-use Prim.Native.Nat.{ℕ, _≤_}
+use Prim.Native.Nat.{ℕ, _+_, _*_, _≤_}
 use native.Mathlib.Omega.{arith}
 use borrow.Author.Tests.{ltb-false, not-false}
 use lib.Dec.{ltb}
@@ -10,9 +10,10 @@ use lib.ListN.{length}
 use Rattle.rows.proofs.RowsLaws.{row-passed}
 use Rattle.setup.specs.declared.Setup.{Setup}
 use Rattle.setup.specs.SetupRules.{setupOk}
-use Rattle.setup.proofs.SetupLaws.{ok-configured, area-few, area-sized}
+use Rattle.setup.proofs.SetupLaws.{ok-configured, area-few, area-sized, area-some, Counted}
 use Rattle.words.specs.declared.Words.{Words}
 use Rattle.area.specs.declared.Area.{Area}
+use Rattle.area.proofs.WordLaws.{Sized}
 use Rattle.net.specs.Telegram.{telegramOf}
 use Rattle.net.specs.Normal.{normalOf, normalLength}
 use Rattle.net.proofs.NormalLaws.{normal-sent}
@@ -22,7 +23,7 @@ use Rattle.answers.specs.declared.BuildFault.{BuildFault}
 use Rattle.answers.specs.declared.BuildFault.the-variants.{BadSetup, NotExpressible, ShortBuffer}
 use Rattle.answers.specs.declared.BuildAnswer.{BuildAnswer}
 use Rattle.answers.specs.declared.BuildAnswer.the-variants.{Done, Refused}
-use Rattle.master.specs.Build.{Builds, Sends, netFor, telegramFor, unbuilt, sent, outcomeOf, admitted, builtOf}
+use Rattle.master.specs.Build.{Builds, Sends, taskCount, commandCount, netFor, telegramFor, unbuilt, sent, outcomeOf, admitted, builtOf}
 
 abbrev isDone : BuildAnswer → Bool
 isDone Done = true
@@ -81,10 +82,18 @@ module _ {s : Setup} {r : Request} {net out : List ℕ} {a : BuildAnswer} (t : T
   pub builds-none : {fault : BuildFault} → a ≡ Refused fault → Builds (builtOf s r net out) (unbuilt fault out .built) out
   builds-none {fault} e = rw (decided (Refused fault) e) (record { answers = refl; bytes-are = refl })
 
+-- the areas that are built have the words that the set-up counts in their telegrams
+pub task-counted : (s : Setup) (id : ℕ) → Counted s (taskCount s id)
+task-counted s id = refl
+
+pub command-counted : (s : Setup) → Counted s (commandCount s)
+command-counted s = refl
+
 -- an area and process words of a set-up that may be used are sent
-pub sends-normal : (s : Setup) (adr : ℕ) (a : Area) (w : Words) (out : List ℕ) → setupOk s ≡ true → 256 ≤ length out → {n : ℕ} {bytes : List ℕ}
-    → (n ≡ normalLength out a (s .pkw) w (s .pzd)) × (bytes ≡ normalOf out adr a (s .pkw) w (s .pzd)) → Sends (telegramOf adr (netFor s a w)) out n bytes
-sends-normal s adr a w out good room e =
-    let f = ok-configured s good in
-    let m = normal-sent a (s .pkw) w (s .pzd) (f .process) (area-sized s f) out adr room (omega (arith, f .some)) (area-few s f) in
+pub sends-normal : (s : Setup) (k adr : ℕ) (a : Area) (w : Words) (out : List ℕ) → Counted s k → setupOk s ≡ true → 256 ≤ length out → {n : ℕ} {bytes : List ℕ}
+    → (n ≡ normalLength out a k w (s .pzd)) × (bytes ≡ normalOf out adr a k w (s .pzd)) → Sends (telegramOf adr (netFor s k a w)) out n bytes
+sends-normal s k adr a w out counted good room e =
+    let c = ok-configured s good in
+    let n = (k + s .pzd) * 2 in
+    let m = normal-sent a k w (s .pzd) (c .process) (subst Sized counted (area-sized s n c)) out adr room (omega (arith, counted, area-some s n c)) (omega (arith, counted, area-few s n c)) in
     record { long = e .0 ∙ m .0; there = e .1 ∙ m .1 }

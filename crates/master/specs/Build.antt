@@ -1,7 +1,10 @@
 -- The telegrams that a master builds (document 01, Answer numbers 30 to 32): the ignored bits of PKE and IND and an ignored PWE1
 -- are written 0, the index always as given; a mirror carries the node with bit 6; a broadcast is written as given with node 0.
 --     taskArea id number ..   the area of a task
---     commandArea pkw ..      the area of a broadcast, in the setting PKW
+--     commandArea k ..        the area of a broadcast, in k words
+--     taskCount s id          how many words the area of a task telegram has
+--     commandCount s          how many words the area of a broadcast has
+--     netFor s k area ..      the net bytes of an area in k words and process words
 --     telegramFor s r net     the telegram of a request
 --     admitRows s askable ..  the lines 30, 31, 32; askable says whether the request can be asked
 --     admitted s askable room the first of them that applies, or none
@@ -35,16 +38,24 @@ taskArea id number index value = record { pke = id * 4096 + number % 2000; ind =
 
 -- selector, two masks, and a fourth word 0 where there is one
 unfoldable pub commandArea : ℕ → ℕ → ℕ → ℕ → Area
-commandArea pkw selector mask1 mask2 = record { pke = selector; ind = mask1; value = cond (eqb pkw 4) (mask2 * 65536) mask2 }
+commandArea k selector mask1 mask2 = record { pke = selector; ind = mask1; value = cond (eqb k 4) (mask2 * 65536) mask2 }
 
--- the net bytes of an area and process words; the settings PKW and PZD decide what is written
-abbrev pub netFor : Setup → Area → Words → List ℕ
-netFor s area process = netOf (fixedWords (s .pkw) area) (processWords (s .pzd) process)
+-- the words of the area of a task with that ID: the PKW setting, whatever the ID
+abbrev pub taskCount : Setup → ℕ → ℕ
+taskCount s id = s .pkw
+
+-- the words of the area of a broadcast: the PKW setting
+abbrev pub commandCount : Setup → ℕ
+commandCount s = s .pkw
+
+-- an area in k words; the setting PZD decides how many process words are written
+abbrev pub netFor : Setup → ℕ → Area → Words → List ℕ
+netFor s k area process = netOf (fixedWords k area) (processWords (s .pzd) process)
 
 unfoldable pub telegramFor : Setup → Request → List ℕ → List ℕ
-telegramFor s (Task id number index value process) net = telegramOf (s .node) (netFor s (taskArea id number index value) process)
+telegramFor s (Task id number index value process) net = telegramOf (s .node) (netFor s (taskCount s id) (taskArea id number index value) process)
 telegramFor s Mirror net = telegramOf (s .node + 64) net
-telegramFor s (Broadcast selector mask1 mask2 process) net = telegramOf 32 (netFor s (commandArea (s .pkw) selector mask1 mask2) process)
+telegramFor s (Broadcast selector mask1 mask2 process) net = telegramOf 32 (netFor s (commandCount s) (commandArea (commandCount s) selector mask1 mask2) process)
 
 pub record BuildOutcome : Type 0 where
   pub built : Built

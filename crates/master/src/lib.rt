@@ -7,7 +7,7 @@ ghost use lib.ListN.{length};
 ghost use Rattle.net.specs.Telegram.{telegramOf};
 ghost use Rattle.setup.specs.SetupRules.{setupOk};
 ghost use Rattle.request.specs.declared.Request.the-variants.{Task, Mirror, Broadcast};
-ghost use Rattle.master.specs.Build.{Sends, Builds, netFor, taskArea, commandArea, admitted, builtOf};
+ghost use Rattle.master.specs.Build.{Sends, Builds, taskCount, commandCount, netFor, taskArea, commandArea, admitted, builtOf};
 use answers::BuildAnswer;
 use answers::BuildFault;
 use area::Area;
@@ -48,7 +48,7 @@ fn write_task(
     out: &mut [u8],
 ) -> usize
     requires { ⌜ (setupOk setup ≡ true) × (256 ≤ length (now out)) × (id ≤ 15) ⌝ }
-    ensures { λ r. ⌜ Sends (telegramOf (setup .node) (netFor setup (taskArea id number index value) process)) (now (out .entry)) r (now (out .exit)) ⌝ }
+    ensures { λ r. ⌜ Sends (telegramOf (setup .node) (netFor setup (taskCount setup id) (taskArea id number index value) process)) (now (out .entry)) r (now (out .exit)) ⌝ }
 {
     let nibble = page::nibble_of(number);
     let area = Area {
@@ -78,9 +78,10 @@ fn write_broadcast(
     out: &mut [u8],
 ) -> usize
     requires { ⌜ (setupOk setup ≡ true) × (256 ≤ length (now out)) ⌝ }
-    ensures { λ r. ⌜ Sends (telegramOf 32 (netFor setup (commandArea (setup .pkw) selector mask1 mask2) process)) (now (out .entry)) r (now (out .exit)) ⌝ }
+    ensures { λ r. ⌜ Sends (telegramOf 32 (netFor setup (commandCount setup) (commandArea (commandCount setup) selector mask1 mask2) process)) (now (out .entry)) r (now (out .exit)) ⌝ }
 {
-    let value = if setup.pkw == 4 {
+    let count = setup.pkw;
+    let value = if count == 4 {
         (mask2 as u32) * 65536
     } else {
         mask2 as u32
@@ -90,7 +91,7 @@ fn write_broadcast(
         ind: mask1,
         value,
     };
-    net::write_normal(out, 32, area, setup.pkw, process, setup.pzd)
+    net::write_normal(out, 32, area, count, process, setup.pzd)
 }
 
 // The build of a task's telegram. A refusal writes nothing; else only the telegram is written, at the buffer's start.

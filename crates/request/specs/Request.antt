@@ -4,8 +4,8 @@
 -- that are not void, unused ones 0.
 --     unusedZero pzd w                      the words past the first pzd are 0
 --     taskKnown id                          the task IDs that can be asked, but 0
---     valueFits act width pkw value         the values that an act of that width can carry in an area of pkw words
---     taskFits pkw id number index value    a task that can be asked in an area of pkw words
+--     valueFits act width pkw value         the values that an act of that width can carry; pkw is the PKW setting
+--     taskFits pkw id number index value    a task that can be asked; pkw is the PKW setting
 --     taskAskable s id ..                   a task request that can be asked
 --     expressible s r net                   a request that can be asked; net are the net bytes of a mirror
 use Prim.Native.Nat.{ℕ}
@@ -40,7 +40,7 @@ unusedZero pzd w =
 unfoldable pub taskKnown : ℕ → Bool
 taskKnown id = (leb 1 id && leb id 3) || (leb 6 id && leb id 9) || (leb 11 id && leb id 14)
 
--- value 0 for tasks 1, 6, 9; at most 65535 for word changes; no double change in three words. No value fits where none is carried
+-- value 0 for tasks 1, 6, 9; at most 65535 for word changes; no double change where the PKW setting is 3. No value fits where none is carried
 unfoldable pub valueFits : Act → Width → ℕ → ℕ → Bool
 valueFits Nothing width pkw value = false
 valueFits Read width pkw value = eqb value 0
@@ -50,6 +50,7 @@ valueFits Change Double pkw value = not (eqb pkw 3)
 valueFits Count width pkw value = eqb value 0
 valueFits Refuse width pkw value = false
 
+-- task 0 with number, index, value 0; or the PKW setting not 0, and the rest of 31
 unfoldable pub taskFits : ℕ → ℕ → ℕ → ℕ → ℕ → Bool
 taskFits pkw id number index value =
     cond (eqb id 0) (eqb number 0 && eqb index 0 && eqb value 0)

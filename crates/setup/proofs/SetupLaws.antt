@@ -8,7 +8,7 @@ use lib.Dec.{ltb, eqb}
 use borrow.Author.Tests.{le-ltb, eq-eqb, ne-eqb, ltb-false, eqb-true, eqb-false, not-true, not-false}
 use Rattle.rows.proofs.BoolLaws.{or-left, or-right}
 use Rattle.setup.specs.declared.Setup.{Setup}
-use Rattle.setup.specs.SetupRules.{setupBad, setupOk, netBytes, areaCount, otherNode, otherLength}
+use Rattle.setup.specs.SetupRules.{setupBad, setupOk, areaCount, otherNode, otherLength}
 
 -- an area of three or four words
 abbrev pub Wide : ℕ → Type 0
@@ -70,40 +70,55 @@ pub configured-passes : (s : Setup) → Configured s → setupOk s ≡ true
 unfolding setupOk
 configured-passes s f = ok-of (s .node) (s .pkw) (s .pzd) (f .nodes) (f .areas) (f .process) (f .some)
 
--- an area has at most four words
-pub area-few : (s : Setup) → Configured s → s .pkw ≤ 4
-area-few s f = go (f .areas)
-  where
-    go : (s .pkw ≡ 0) ⊎ Wide (s .pkw) → s .pkw ≤ 4
-    go (inl e) = omega arith
-    go (inr (inl e)) = omega arith
-    go (inr (inr e)) = omega arith
-
--- an area has no word, or three at least
-pub area-sized : (s : Setup) → Configured s → (s .pkw ≡ 0) ⊎ (3 ≤ s .pkw)
-area-sized s f = go (f .areas)
-  where
-    go : (s .pkw ≡ 0) ⊎ Wide (s .pkw) → (s .pkw ≡ 0) ⊎ (3 ≤ s .pkw)
-    go (inl e) = inl e
-    go (inr (inl e)) = inr (omega arith)
-    go (inr (inr e)) = inr (omega arith)
-
--- a parameter area has 3 or 4 words
-pub area-wide : (s : Setup) → Configured s → (s .pkw ≡ 0 → ⊥) → Wide (s .pkw)
-area-wide s c h = go (c .areas)
-  where
-    go : (s .pkw ≡ 0) ⊎ Wide (s .pkw) → Wide (s .pkw)
-    go (inl z) = absurd (h z)
-    go (inr w) = w
-
 wide-between : (n : ℕ) → Wide n → (3 ≤ n) × (n ≤ 4)
 wide-between n (inl e) = (omega arith, omega arith)
 wide-between n (inr e) = (omega arith, omega arith)
 
-pub area-words : (s : Setup) → Configured s → (s .pkw ≡ 0 → ⊥) → (3 ≤ s .pkw) × (s .pkw ≤ 4)
-area-words s c h = wide-between (s .pkw) (area-wide s c h)
+-- ---- how many words the area of a telegram with n net bytes has
 
--- lines 16 and 17, each as its Bool and as an equation
+module _ (s : Setup) (n : ℕ) (c : Configured s) where
+  -- none, or three or four
+  none-or-wide : (areaCount s n ≡ 0) ⊎ Wide (areaCount s n)
+  none-or-wide = c .areas
+
+  -- at most four
+  pub area-few : areaCount s n ≤ 4
+  area-few = go none-or-wide
+    where
+      go : (areaCount s n ≡ 0) ⊎ Wide (areaCount s n) → areaCount s n ≤ 4
+      go (inl e) = omega arith
+      go (inr (inl e)) = omega arith
+      go (inr (inr e)) = omega arith
+
+  -- none, or three at least
+  pub area-sized : (areaCount s n ≡ 0) ⊎ (3 ≤ areaCount s n)
+  area-sized = go none-or-wide
+    where
+      go : (areaCount s n ≡ 0) ⊎ Wide (areaCount s n) → (areaCount s n ≡ 0) ⊎ (3 ≤ areaCount s n)
+      go (inl e) = inl e
+      go (inr (inl e)) = inr (omega arith)
+      go (inr (inr e)) = inr (omega arith)
+
+  -- a parameter area has three or four
+  pub area-wide : (areaCount s n ≡ 0 → ⊥) → Wide (areaCount s n)
+  area-wide h = go none-or-wide
+    where
+      go : (areaCount s n ≡ 0) ⊎ Wide (areaCount s n) → Wide (areaCount s n)
+      go (inl z) = absurd (h z)
+      go (inr w) = w
+
+  pub area-words : (areaCount s n ≡ 0 → ⊥) → (3 ≤ areaCount s n) × (areaCount s n ≤ 4)
+  area-words h = wide-between (areaCount s n) (area-wide h)
+
+  -- the two areas are not both without a word
+  pub area-some : 0 < areaCount s n + s .pzd
+  area-some = c .some
+
+-- k is what the set-up counts in a telegram with an area of k words
+abbrev pub Counted : Setup → ℕ → Type 0
+Counted s k = areaCount s ((k + s .pzd) * 2) ≡ k
+
+-- ---- lines 16 and 17, each as its Bool and as an equation
 
 pub own-node : (s : Setup) (node : ℕ) → otherNode s node ≡ false → node ≡ s .node
 own-node s node e = eqb-true node (s .node) (not-false (eqb node (s .node)) e)
@@ -111,24 +126,12 @@ own-node s node e = eqb-true node (s .node) (not-false (eqb node (s .node)) e)
 pub node-own : (s : Setup) (node : ℕ) → node ≡ s .node → otherNode s node ≡ false
 node-own s node e = ap not (eq-eqb node (s .node) e)
 
-pub not-own-node : (s : Setup) (node : ℕ) → otherNode s node ≡ true → node ≡ s .node → ⊥
-not-own-node s node e = eqb-false node (s .node) (not-true (eqb node (s .node)) e)
-
 pub node-other : (s : Setup) (node : ℕ) → (node ≡ s .node → ⊥) → otherNode s node ≡ true
 node-other s node h = ap not (ne-eqb node (s .node) h)
-
-pub own-length : (s : Setup) (n : ℕ) → otherLength s n ≡ false → n ≡ netBytes s
-own-length s n e = eqb-true n (netBytes s) (not-false (eqb n (netBytes s)) e)
-
-pub length-own : (s : Setup) (n : ℕ) → n ≡ netBytes s → otherLength s n ≡ false
-length-own s n e = ap not (eq-eqb n (netBytes s) e)
-
-pub not-own-length : (s : Setup) (n : ℕ) → otherLength s n ≡ true → n ≡ netBytes s → ⊥
-not-own-length s n e = eqb-false n (netBytes s) (not-true (eqb n (netBytes s)) e)
-
-pub length-other : (s : Setup) (n : ℕ) → (n ≡ netBytes s → ⊥) → otherLength s n ≡ true
-length-other s n h = ap not (ne-eqb n (netBytes s) h)
 
 -- the words of a telegram of the set-up's length
 pub own-words : (s : Setup) (n : ℕ) → otherLength s n ≡ false → n ≡ (areaCount s n + s .pzd) * 2
 own-words s n e = eqb-true n ((areaCount s n + s .pzd) * 2) (not-false (eqb n ((areaCount s n + s .pzd) * 2)) e)
+
+pub words-own : (s : Setup) (n : ℕ) → n ≡ (areaCount s n + s .pzd) * 2 → otherLength s n ≡ false
+words-own s n e = ap not (eq-eqb n ((areaCount s n + s .pzd) * 2) e)

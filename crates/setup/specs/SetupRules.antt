@@ -1,7 +1,6 @@
 -- Which set-ups may be used (document 01, Answer numbers: 20, and 30 "set-up as 20"), and which telegrams are for one (16 and 17).
 --     setupBad s          node over 31, PKW not 0, 3, 4, PZD over 4, or both 0
 --     setupOk s           none of these
---     netBytes s          the net bytes of a telegram of the set-up: 2 × (PKW + PZD)
 --     areaCount s n       how many words the parameter area of a telegram with n net bytes has: the PKW setting
 --     otherNode s node    line 16: another node's
 --     otherLength s n     line 17: n not 2 × (PKW + PZD)
@@ -19,9 +18,6 @@ setupBad s =
 
 unfoldable pub setupOk : Setup → Bool
 setupOk s = not (setupBad s)
-
-abbrev pub netBytes : Setup → ℕ
-netBytes s = (s .pkw + s .pzd) * 2
 
 -- the setting says how many words the parameter area has, whatever n
 abbrev pub areaCount : Setup → ℕ → ℕ

@@ -8,7 +8,7 @@ use lib.ListN.{length}
 use Rattle.words.specs.declared.Words.{Words}
 use Rattle.setup.specs.declared.Setup.{Setup}
 use Rattle.setup.specs.SetupRules.{areaCount, otherNode, otherLength}
-use Rattle.setup.proofs.SetupLaws.{Configured, area-few, area-sized}
+use Rattle.setup.proofs.SetupLaws.{Configured, area-few, area-sized, area-some}
 use Rattle.area.specs.declared.Area.{Area}
 use Rattle.net.specs.Normal.{normalOf, normalLength}
 use Rattle.net.specs.Telegram.{written}
@@ -61,7 +61,7 @@ pub reply-sent : (s : Setup) (n : ℕ) (a : Area) (status : Words) (out : List �
     × (normalOf out (s .node) a (areaCount s n) status (s .pzd) ≡ written out (replyOf s n a status))
 unfolding replyOf
 reply-sent s n a status out c room =
-    normal-sent a (areaCount s n) status (s .pzd) (c .process) (area-sized s c) out (s .node) room (omega (arith, c .some)) (area-few s c)
+    normal-sent a (areaCount s n) status (s .pzd) (c .process) (area-sized s n c) out (s .node) room (omega (arith, area-some s n c)) (area-few s n c)
 
 module _ (k : Call) where
   pub executed : (d : Decoded) → decodedOf (k .received) ≡ d → executeOf k ≡ executeDecoded d k

@@ -2,6 +2,7 @@
 --     Call                 what a call is given
 --     lentBy k             what it lends to the opening check
 --     openingAt k          the answer of the opening check
+--     receiving k rx       the same call with other bytes received
 --     Outcome              answer, reply length and control words; the memory; the reply buffer afterwards
 --     Leaves o r m out     a call that returns r leaves the memory m and the buffer out, as o has them
 --     refusedOf f k        a refusal
@@ -55,6 +56,10 @@ lentBy k = record { setup = k .setup; table = k .table; memory = k .memory; room
 
 abbrev pub openingAt : Call → Opening
 openingAt k = openingOf (lentBy k)
+
+abbrev pub receiving : Call → List ℕ → Call
+receiving k rx =
+    record { setup = k .setup; table = k .table; memory = k .memory; control = k .control; status = k .status; received = rx; buffer = k .buffer }
 
 pub record Outcome : Type 0 where
   pub served : Served

@@ -6,8 +6,8 @@ use Prim.Native.Nat.{_*_}
 use borrow.Author.Tests.{eq-eqb, ne-eqb}
 use lib.Dec.{eqb}
 use Rattle.area.specs.declared.Area.{Area}
-use Rattle.master.proofs.BuildLaws.{sends-normal}
-use Rattle.master.specs.Build.{commandArea}
+use Rattle.master.proofs.BuildLaws.{command-counted, sends-normal}
+use Rattle.master.specs.Build.{commandArea, commandCount}
 use borrow.Author.Needs.{needs}
 use Rattle.master.proofs.write_broadcast.Statement.{statement}
 use Rattle.master.proofs.write_broadcast.Tie as tie
@@ -31,10 +31,10 @@ returns c =
     let j : tie.Joined1 = search in
     let s : tie.Start = search in
     let a = s .args in
-    let e : j .if1 .value ≡ cond (eqb (a .setup .pkw) 4) (a .mask2 * 65536) (a .mask2) =
+    let e : j .if1 .value ≡ cond (eqb (commandCount (a .setup)) 4) (a .mask2 * 65536) (a .mask2) =
     ⊎-elim (λ x. rw (eq-eqb _ _ (x .0 .taken)) (x .1)) (λ x. rw (ne-eqb _ _ (x .0 .left)) (x .1)) (j .if1 .came) in
     let area : Area = record { pke = a .selector; ind = a .mask1; value = j .if1 .value } in
-    rw (← e) (sends-normal (a .setup) 32 area (a .process) (a .out .now) (s .pre .0) (s .pre .1) (w .write-normal .ensures))
+    rw (← e) (sends-normal (a .setup) (commandCount (a .setup)) 32 area (a .process) (a .out .now) (command-counted (a .setup)) (s .pre .0) (s .pre .1) (w .write-normal .ensures))
 
 pub write-broadcast-spec : {M : Type 1} → statement M
 write-broadcast-spec = tie.close (tie.spec mul-value write-normal-requires same-length returns)

@@ -2,9 +2,9 @@
 use Prim.Native.Nat.{_+_, _*_, _%_}
 use native.Mathlib.Omega.{arith}
 use Rattle.area.specs.declared.Area.{Area}
-use Rattle.master.proofs.BuildLaws.{sends-normal}
+use Rattle.master.proofs.BuildLaws.{task-counted, sends-normal}
 use Rattle.page.proofs.PageLaws.{nibble-small}
-use Rattle.master.specs.Build.{taskArea}
+use Rattle.master.specs.Build.{taskArea, taskCount}
 use borrow.Author.Needs.{needs}
 use Rattle.master.proofs.write_task.Statement.{statement}
 use Rattle.master.proofs.write_task.Tie as tie
@@ -49,7 +49,7 @@ returns c =
     let s : tie.Start = search in
     let a = s .args in
     let area : Area = record { pke = a .id * 4096 + a .number % 2000; ind = n .nibble-of .result * 4096 + a .index; value = a .value } in
-    rw (← (n .nibble-of .ensures)) (sends-normal (a .setup) (a .setup .node) area (a .process) (a .out .now) (s .pre .0) (s .pre .1) (w .write-normal .ensures))
+    rw (← (n .nibble-of .ensures)) (sends-normal (a .setup) (taskCount (a .setup) (a .id)) (a .setup .node) area (a .process) (a .out .now) (task-counted (a .setup) (a .id)) (s .pre .0) (s .pre .1) (w .write-normal .ensures))
 
 pub write-task-spec : {M : Type 1} → statement M
 write-task-spec =
