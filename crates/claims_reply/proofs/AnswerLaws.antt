@@ -1,16 +1,13 @@
 -- What a slave answers to a task that can be asked: a reply ID of the task's row or 7, and a value that fits. Assumes nothing.
 use mathlib.Core.Path.{_≡_, refl, sym}
-use mathlib.Core.Bool.{Bool, true, false, _&&_, false≢true}
+use mathlib.Core.Bool.{Bool, true, false, false≢true}
 use Prim.Native.Nat.{ℕ, _+_, _/_, _≤_, _<_}
 use native.Mathlib.Omega.{arith}
-use borrow.Author.Tests.{eqb-true, eqb-false, leb-true, ne-eqb}
-use lib.Dec.{eqb}
+use borrow.Author.Tests.{leb-true, ne-eqb}
 use lib.ListN.{getD}
 use Rattle.setup.proofs.SetupLaws.{Wide}
-use Rattle.entry.specs.declared.Entry.{Entry}
-use Rattle.entry.specs.Fields.{countOf}
 use Rattle.entry.specs.Limits.{fitsIn}
-use Rattle.entry.proofs.LimitsLaws.{ok-ruled, within-fits, count-none, count-some}
+use Rattle.entry.proofs.LimitsLaws.{ok-ruled, within-fits}
 use Rattle.table.specs.declared.Found.{Found}
 use Rattle.table.specs.declared.Found.the-variants.{At, Nothing as Nowhere}
 use Rattle.table.specs.Records.{entryAt, firstPlace}
@@ -23,11 +20,10 @@ use Rattle.page.specs.Page.{fullNumber}
 use Rattle.task.specs.declared.ParameterError.the-variants.{NoParameter}
 use Rattle.task.specs.declared.Verdict.{Verdict}
 use Rattle.task.specs.declared.Verdict.the-variants.{Granted, Denied}
-use Rattle.task.specs.Verdict.{movesValue, lacksRoom}
 use Rattle.task.proofs.TaskLaws.{task-row}
-use Rattle.task.proofs.VerdictLaws.{granted-clear}
-use Rattle.deed.specs.Deed.{taskIn, indexIn, valueIn, elementIn, verdictIn, deedOn}
+use Rattle.deed.specs.Deed.{taskIn, elementIn, verdictIn, deedOn}
 use Rattle.deed.proofs.DeedLaws.{deed-denied, deed-granted, element-there}
+use Rattle.deed.proofs.ReplyLaws.{granted-room, count-few}
 use Rattle.request.specs.Request.{valueFits}
 use Rattle.slave.specs.Perform.{doneBy, foundOf, planOn, planIn, carriedOut, performOf}
 use Rattle.slave.proofs.PerformLaws.{named-found}
@@ -35,27 +31,10 @@ use Rattle.claims_reply.proofs.SuitLaws.{Answers, error-answers, done-a
 
 -- ---- a task on a record of a table that passed
 
--- a granted task has room for its answer
-granted-room : (n : ℕ) (a : Area) (e : Entry) → verdictIn n a e ≡ Granted → movesValue (taskIn a .act) ≡ true → e .double ≡ true → n ≡ 3 → ⊥
-granted-room n a e g moves double three =
-    let clear : lacksRoom n (taskIn a) e ≡ false = granted-clear n (taskIn a) e (indexIn a) (valueIn a) g .room-there in
-    go (eqb n 3) (λ p. eqb-false n 3 p three) (rw (double, moves) at clear)
-  where
-    go : (b : Bool) → (b ≡ false → ⊥) → (true && (b && true)) ≡ false → ⊥
-    go true h z = false≢true (sym z)
-    go false h z = h refl
-
 word-fits : (double : Bool) (x : ℕ) → fitsIn double x ≡ true → double ≡ false → x ≤ 65535
 unfolding fitsIn
 word-fits true x h e = absurd (false≢true (sym e))
 word-fits false x h e = leb-true x 65535 h
-
-count-few : (e : Entry) → e .elements ≤ 254 → countOf e ≤ 65535
-count-few e h = go (eqb (e .elements) 0) refl
-  where
-    go : (b : Bool) → eqb (e .elements) 0 ≡ b → countOf e ≤ 65535
-    go true p = omega (arith, count-none e (eqb-true (e .elements) 0 p))
-    go false p = omega (arith, count-some e (eqb-false (e .elements) 0 p))
 
 module _ (l : Lent) (n : ℕ) (a : Area) (w : Wide n) (small : a .value < 4294967296) (values : (i : ℕ) → getD (l .memory .values) i 0 < 4294967296)
     (fits : valueFits (taskIn a .act) (taskIn a .width) n (a .value) ≡ true) where
@@ -73,7 +52,7 @@ module _ (l : Lent) (n : ℕ) (a : Area) (w : Wide n) (small : a .value < 429496
             room = granted-room n a e g;
             whole = values (firstPlace (l .table) j + i);
             word = word-fits (e .double) x (within-fits e x (p .value i (element-there n a e g)));
-            few = count-few e (ok-ruled e (p .ok) .elements-few);
+            few = omega (arith, count-few e (ok-ruled e (p .ok) .elements-few));
           }))
       go (Denied error) g = rw (deed-denied n a (entryAt (l .table) j) error g) (error-answers n a error w)
 
