@@ -1,4 +1,4 @@
-/* What uss.h needs of the C compiler's own stddef.h, for a compiler that comes without one. */
+/* What uss.h and bench/ need of the C compiler's own stddef.h, for a compiler that comes without one. */
 #ifndef PORT_STDDEF_H
 #define PORT_STDDEF_H
 typedef __SIZE_TYPE__ size_t;

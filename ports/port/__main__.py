@@ -6,6 +6,7 @@ import archive
 import header
 import module
 import shim
+import source
 from kit import Kit
 from refuse import BadInput, Refused
 from targets import TARGETS
@@ -16,7 +17,7 @@ ROOT = os.path.dirname(os.path.dirname(os.path.dirname(os.path.abspath(__file__)
 def read_all(kit):
     """The header and the proved module, compared with each other and with the source."""
     head = header.read(os.path.join("include", "uss.h"))
-    shim.compare_source(head, os.path.join("crates", module.LIBRARY, "src"))
+    source.compare(head, ROOT)
     folder = os.path.join("target", "ports", "module")
     module.prove(ROOT, kit, os.path.join(ROOT, folder))
     proved = module.read(os.path.join(folder, "module.ll"))

@@ -3,14 +3,12 @@
 Inside the module every struct goes by pointer, a slice as a pointer to a pair (the pointer in a slot of 8 bytes, the length in 64
 bits), a number as itself, a returned struct by a first pointer. So a shim is made from its prototype alone; before it is used, the
 prototypes are compared with the module and with the library's source."""
-import os
 import re
 
 from header import NUMBERS
 from refuse import Refused
 
 IR = {"uint8_t": "i8", "uint16_t": "i16", "uint32_t": "i32", "uint64_t": "i64"}
-SOURCE = {"uint8_t": "u8", "uint16_t": "u16", "uint32_t": "u32", "uint64_t": "u64"}
 PAIR = 16
 
 
@@ -52,33 +50,6 @@ def compare_copies(call, name, size, body):
     copy = re.compile(rf"  call void @llvm\.memmove\.p0\.p0\.i64\(ptr (?:{name}, ptr %r\d+|%r\d+, ptr {name}), i64 {size}, i1 false\)")
     if not uses or not all(copy.fullmatch(line) for line in uses):
         raise Refused(f"{call.name}: the module does not copy {name} as {size} bytes: {uses[:1] or 'not used'}")
-
-
-def compare_source(header, folder):
-    """Each call in the library's source has the header's parameters: the same names in the same order, numbers and slices of the
-    same width, a slice that is const here and shared there. A struct's type is compared by its size, in the module."""
-    text = ""
-    for name in sorted(os.listdir(folder)):
-        if name.endswith(".rt"):
-            with open(os.path.join(folder, name)) as file:
-                text += re.sub(r"//.*", "", file.read())
-    found = {}
-    for name, parameters in re.findall(r'#\[no_mangle\]\s*pub extern "C" fn (\w+)\s*\(([^)]*)\)', text):
-        found[name] = [tuple(part.strip() for part in p.split(":", 1)) for p in parameters.split(",") if p.strip()]
-    if set(found) != set(header.calls):
-        raise Refused(f"the header and {folder} do not have the same calls: {' '.join(sorted(set(found) ^ set(header.calls)))}")
-    for call in header.calls.values():
-        wanted = []
-        for p in call.parameters:
-            if p.kind == "slice":
-                wanted.append((p.name, f"&{'' if p.const else 'mut '}[{SOURCE[p.type]}]"))
-            else:
-                wanted.append((p.name, SOURCE.get(p.type, "a struct")))
-        numbers = set(SOURCE.values())
-        seen = [(name, type_ if type_ in numbers or type_.startswith("&") else "a struct") for name, type_ in found[call.name]]
-        if seen != wanted:
-            first = next((pair for pair in zip(seen, wanted) if pair[0] != pair[1]), ("another count", "of parameters"))
-            raise Refused(f"{call.name}: the source has {first[0]}, the header {first[1]}")
 
 
 # ---- writing

@@ -39,7 +39,8 @@ def wrapper(head, call, number):
     size = 8 if call.returns in header.NUMBERS else sum(n for _, n in numbers)
     length = " + ".join([str(size)] + [f"slice_bytes({'1' if p.const else '0'}, sizeof *{p.name} * {p.count})" for p in slices])
     text = call.text.replace(f" {call.name}(", f" do_{call.name}(", 1)
-    return "\n".join([f"static {text}", "{", *lines, f"    {call.returns} r;", f"    r = {call.name}({', '.join(given)});",
+    return "\n".join([f"static {text}", "{", *lines, f"    {call.returns} r;", "    PAINT", f"    r = {call.name}({', '.join(given)});",
+                      f"    LOOK({number})",
                       f"    begin({number}, (uint32_t)({length}));", *puts, *after, "    return r;", "}", ""])
 
 

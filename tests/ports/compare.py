@@ -1,5 +1,5 @@
 """The same answers on every target: runs the driver on x86-64 and then on each target, and compares their streams byte for byte.
-Then two kinds of wrong port, each of which the comparison must see."""
+Then three kinds of wrong port, each of which the comparison must see."""
 import itertools
 import os
 import re
@@ -9,7 +9,7 @@ import sys
 import time
 from concurrent.futures import ThreadPoolExecutor
 
-from machines import ROOT, TARGETS, TEST, X86, Builder, command
+from machines import ROOT, TARGETS, TEST, X86, Builder, command, machine_of
 
 import archive
 import header
@@ -120,6 +120,15 @@ def compare(builder, name, wanted, head):
     return run(name, program, wanted, head)
 
 
+def compare_aligned(builder, name, wanted, head):
+    """The archive of --aligned, on a machine that traps each access that is not aligned."""
+    target, folder = TARGETS[name], os.path.join(TEST, f"aligned-{name}")
+    proved = module.read(os.path.join(ROOT, "target", "ports", "module", "module.ll"))
+    archive.build(ROOT, builder.kit, target, True, head, proved, folder)
+    objects = builder.objects(target, "-aligned", ["-DTRAP_UNALIGNED"])
+    return run(name, builder.link(name, objects, [os.path.join(folder, "libuss_c.a")], f"{name}-aligned"), wanted, head)
+
+
 # ---- wrong ports: tests of the test
 
 
@@ -133,7 +142,8 @@ def wrong_program(builder, name, label, files, head):
         archive.write(os.path.join(folder, file), text)
         made.append(os.path.join(folder, file + ".o"))
         builder.kit.must("clang", [*words, "-Oz", *more, "-c", file, "-o", made[-1]], folder)
-    return builder.link(name, [f"{name}-driver.o", f"{name}-runtime.o", f"{name}-machine_linux.o"], [*made, *library(name)], os.path.join(folder, "driver"))
+    driver = [f"{name}-{source[:-2]}.o" for source in ("driver.c", "runtime.c", machine_of(name))]
+    return builder.link(name, driver, [*made, *library(name)], os.path.join(folder, "driver"))
 
 
 def not_extended(builder, name, head):
@@ -160,6 +170,14 @@ def exchanged(builder, name, head, call, a, b):
     text = shim.opening(head) + shim.shim_of(head, wrong)
     words = ["-Xclang", "-mlink-builtin-bitcode", "-Xclang", port]
     return wrong_program(builder, name, f"{call.name}-{a.name}-{b.name}", [(f"{call.name}.c", text, words)], head)
+
+
+def one_too_many(builder, name, head):
+    """A shim that says one byte more than it was lent."""
+    call = head.calls["uss_bcc"]
+    port = os.path.join(ROOT, "target", "ports", name, "made", "port.bc")
+    text = shim.opening(head) + shim.shim_of(head, call).replace("}, len}", "}, len + 1}")
+    return wrong_program(builder, name, "count", [("uss_bcc.c", text, ["-Xclang", "-mlink-builtin-bitcode", "-Xclang", port])], head)
 
 
 def must_differ(name, program, wanted, head):
@@ -205,9 +223,17 @@ def main():
     with ThreadPoolExecutor(jobs) as pool:
         for name, good, text in pool.map(one, TARGETS):
             say(good, text)
+        try:
+            say(True, f"cortex-m3 --aligned, unaligned accesses trapped: the same bytes as x86-64 ({compare_aligned(builder, 'cortex-m3', wanted, head):.1f} s)")
+        except (Different, Refused) as why:
+            say(False, f"cortex-m3 --aligned, unaligned accesses trapped: {why}")
         for name in ("armv7-linux", "riscv64-linux"):
             seen = must_differ(name, not_extended(builder, name, head), wanted, head)
             say(seen is not None, f"{name} with returned numbers not extended is " + (f"seen: {seen}" if seen else "not seen"))
+        for name in ("armv7-linux", "cortex-m3"):
+            seen = must_differ(name, one_too_many(builder, name, head), wanted, head)
+            good = seen is not None and seen.startswith("stops with status")
+            say(good, f"{name} with a count one too large is " + (f"seen: {seen}" if seen else "not seen"))
         swaps = list(pool.map(swap, exchanges(head)))
     unseen = [name for name, seen in swaps if seen is None]
     say(swaps and not unseen, f"armv7-linux with two parameters of one type exchanged: {len(swaps) - len(unseen)} of {len(swaps)} are seen"

@@ -199,6 +199,26 @@ __attribute__((unused)) static size_t draw_any(unsigned which, size_t width)
 
 static void draw_call(int with_table, int with_task);
 
+/* ---- stack: how far below its caller each call writes, where it is measured (-DSTACK, Arm) */
+
+#ifdef STACK
+#define PAINTED 2048
+static uint32_t deepest[64];
+#define PAINT                                                                                                          \
+    volatile uint32_t *sp, *p;                                                                                         \
+    __asm__ volatile("mov %0, sp" : "=r"(sp));                                                                         \
+    for (p = sp - PAINTED / 4; p != sp; p++)                                                                           \
+        *p = 0xC5C5C5C5u;
+#define LOOK(call)                                                                                                     \
+    for (p = sp - PAINTED / 4; p != sp && *p == 0xC5C5C5C5u; p++)                                                      \
+        ;                                                                                                              \
+    if (deepest[call] < 4 * (uint32_t)(sp - p))                                                                        \
+        deepest[call] = 4 * (uint32_t)(sp - p);
+#else
+#define PAINT
+#define LOOK(call)
+#endif
+
 #include "calls.h"
 
 /* ---- telegrams and tables */
@@ -939,6 +959,10 @@ int driver(void)
         for (i = 0; i < DRAWS_PER_SEED; i++)
             turns[draw(sizeof turns / sizeof turns[0])]();
     }
+#ifdef STACK
+    for (i = 0; i < sizeof deepest / sizeof deepest[0]; i++)
+        put32(deepest[i]);
+#endif
     flush();
     return failed;
 }

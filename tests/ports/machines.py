@@ -61,13 +61,13 @@ class Builder:
         return [self.compile(target, os.path.join(HERE, source), f"{target.name}{label}-{source[:-2]}.o", more)
                 for source in ("driver.c", "runtime.c", machine_of(target.name))]
 
-    def link(self, name, objects, library, out):
+    def link(self, name, objects, library, out, script=os.path.join(HERE, "bare.ld")):
         """A driver with the library; of wasm32 it takes the calls from uss.wasm when it is run."""
         if name == "wasm32":
             self.kit.must("wasm-ld", ["--no-entry", "--import-memory", "--import-undefined", "--no-stack-first", "--global-base=65536",
                                       *objects, "-o", out], TEST)
         elif name in BOARDS:
-            self.kit.must("ld.lld", ["-T", os.path.join(HERE, "bare.ld"), *objects, *library, "-o", out], TEST)
+            self.kit.must("ld.lld", ["-T", script, *objects, *library, "-o", out], TEST)
         else:
             self.kit.must("ld.lld", ["-static", *objects, *library, "-o", out], TEST)
         return os.path.join(TEST, out)

@@ -29,6 +29,48 @@ void *memset(void *to, int byte, size_t n)
     return to;
 }
 
+size_t strlen(const char *text)
+{
+    size_t n = 0;
+    while (text[n] != 0)
+        n++;
+    return n;
+}
+
+#if defined(__arm__)
+void *__aeabi_memcpy(void *to, const void *from, size_t n)
+{
+    return memcpy(to, from, n);
+}
+
+void *__aeabi_memcpy4(void *to, const void *from, size_t n)
+{
+    return memcpy(to, from, n);
+}
+
+void *__aeabi_memmove(void *to, const void *from, size_t n)
+{
+    return memmove(to, from, n);
+}
+
+void *__aeabi_memset(void *to, size_t n, int byte)
+{
+    return memset(to, byte, n);
+}
+
+void *__aeabi_memclr(void *to, size_t n)
+{
+    return memset(to, 0, n);
+}
+
+void *__aeabi_memclr4(void *to, size_t n)
+{
+    return memset(to, 0, n);
+}
+#endif
+
+/* Where the compiler's own library is linked, these are its. */
+#ifndef WITH_LIBGCC
 #if defined(__arm__) || (defined(__riscv) && __riscv_xlen == 32)
 /* Long division, a bit at a time. */
 uint64_t divide64(uint64_t n, uint64_t d, uint64_t *rest)
@@ -58,29 +100,11 @@ uint64_t __udivdi3(uint64_t n, uint64_t d)
 #endif
 
 #if defined(__arm__)
-void *__aeabi_memcpy(void *to, const void *from, size_t n)
+uint64_t __aeabi_llsr(uint64_t n, int by)
 {
-    return memcpy(to, from, n);
-}
-
-void *__aeabi_memcpy4(void *to, const void *from, size_t n)
-{
-    return memcpy(to, from, n);
-}
-
-void *__aeabi_memmove(void *to, const void *from, size_t n)
-{
-    return memmove(to, from, n);
-}
-
-void *__aeabi_memset(void *to, size_t n, int byte)
-{
-    return memset(to, byte, n);
-}
-
-void *__aeabi_memclr(void *to, size_t n)
-{
-    return memset(to, 0, n);
+    while (by-- > 0)
+        n >>= 1;
+    return n;
 }
 
 /* Quotient in r0, rest in r1. */
@@ -111,4 +135,5 @@ __attribute__((naked)) void __aeabi_uldivmod(void)
     __asm__("push {r6, lr}\n sub sp, #16\n add r6, sp, #8\n str r6, [sp]\n bl divide64\n ldr r2, [sp, #8]\n ldr r3, [sp, #12]\n"
             " add sp, #16\n pop {r6, pc}");
 }
+#endif
 #endif
