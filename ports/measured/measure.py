@@ -21,7 +21,7 @@ BENCH = os.path.join(ROOT, "bench")
 TESTS = os.path.join(ROOT, "tests", "ports")
 BARE = ["cortex-m0", "cortex-m3", "cortex-m4", "cortex-m4f", "riscv32"]
 # what is measured against: the peer at its smallest of these
-PEER = [["-Oz"], archive.OPTIMISE[:3], ["-Os"], ["-O1"]]
+PEER = [["-Oz"], archive.SIZE[:3], ["-Oz", *archive.SIZE[3:]], archive.SIZE, ["-Os"]]
 # a firmware's own compiler: its name and what it is told
 GCC = {
     "cortex-m0": ["arm-none-eabi-gcc", "-mcpu=cortex-m0", "-mthumb"],

@@ -7,8 +7,10 @@ from refuse import Refused
 from retarget import retarget
 from shim import opening, shim_of
 
-# for size; a function of the module that is called twice is still worth its place in its callers
-OPTIMISE = ["-Oz", "-mllvm", "-inline-threshold=1000", "-ffunction-sections", "-fdata-sections"]
+# For size. The module's functions are small and hand structs on by memory, so all of them go into their callers; and a branch over
+# a few instructions stays one, which takes fewer bytes on Thumb than running both sides.
+SIZE = ["-Oz", "-mllvm", "-inline-threshold=1000", "-mllvm", "-two-entry-phi-node-folding-threshold=0"]
+OPTIMISE = [*SIZE, "-ffunction-sections", "-fdata-sections"]
 
 
 def write(path, text):

@@ -1,10 +1,37 @@
 """The module for another target: its x86-64 functions for C left out, the inner ones that the shims call made visible, and layout,
-triple, cpu, features and the extension of returned numbers taken from what clang writes for the shims on that target."""
+triple, cpu, features and the extension of returned numbers taken from what clang writes for the shims on that target. Where
+pointers have 32 bits, a division of 64 bits asks first whether one of 32 does: counts have 32 bits there, and clang then sees it."""
 import re
 
 from module import LIBRARY
 from refuse import Refused
 from shim import inner
+
+
+DIVISION = """define internal i64 @port_{op}(i64 %n, i64 %d) alwaysinline #0 {{
+  %both = or i64 %n, %d
+  %high = lshr i64 %both, 32
+  %small = icmp eq i64 %high, 0
+  br i1 %small, label %narrow, label %wide
+narrow:
+  %n.narrow = trunc i64 %n to i32
+  %d.narrow = trunc i64 %d to i32
+  %r.narrow = {op} i32 %n.narrow, %d.narrow
+  %r = zext i32 %r.narrow to i64
+  ret i64 %r
+wide:
+  %r.wide = {op} i64 %n, %d
+  ret i64 %r.wide
+}}"""
+
+
+def narrow_divisions(lines):
+    """Each unsigned division of 64 bits, but by a power of two, through the functions above."""
+    def narrow(match):
+        by = int(match[3])
+        return match[0] if by & (by - 1) == 0 else f"= call i64 @port_{match[1]}(i64 {match[2]}, i64 {by})"
+    lines = [re.sub(r"= (udiv|urem) i64 (%[\w.]+), (\d+)$", narrow, line) for line in lines]
+    return [line for op in ("udiv", "urem") for line in DIVISION.format(op=op).split("\n")] + lines
 
 
 def declared(shims, name):
@@ -42,10 +69,13 @@ def retarget(header, module, shims):
         renamed[f'@"{function.name}"'] = f"@{inner(call)}"
         heads[function.name] = f"define {' '.join(returns)} @{inner(call)}({', '.join(parameters)}) #0 {{"
 
-    lines = ['source_filename = "rattle"', *head]
+    lines = []
     for function in module.functions.values():
         if function.inner:
             lines += [heads.get(function.name, function.head), *function.body, "}"]
+    if "-p:32:32-" in head[0]:
+        lines = narrow_divisions(lines)
+    lines = ['source_filename = "rattle"', *head, *lines]
     for line in module.tail:
         if line.startswith("attributes #0 "):
             line = f"attributes #0 = {{ {' '.join(kept)} }}"
