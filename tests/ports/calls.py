@@ -11,8 +11,8 @@ import header
 DRAWN = {"setup": "uss_setup", "control": "uss_words", "status": "uss_words", "process": "uss_words", "task": "uint8_t",
          "parameter": "uint16_t", "index": "uint8_t", "value": "uint32_t", "selector": "uint16_t", "mask1": "uint16_t",
          "mask2": "uint16_t"}
-SLICES = {"table": ("uint8_t", True), "values": ("uint32_t", False), "received": ("uint8_t", True), "net": ("uint8_t", True),
-          "bytes": ("uint8_t", True), "reply": ("uint8_t", False), "out": ("uint8_t", False)}
+SLICES = {"table": "uint8_t", "values": "uint32_t", "received": "uint8_t", "net": "uint8_t", "bytes": "uint8_t", "reply": "uint8_t",
+          "out": "uint8_t"}
 
 
 def leaves(head, type_, place):
@@ -51,7 +51,7 @@ def drawer(head, call):
         plain = p.name.rstrip("0123456789")
         if p.kind == "slice":
             for name in (p.name, plain):
-                if SLICES.get(name) == (p.type, p.const):
+                if SLICES.get(name) == p.type:
                     given += [f"drawn.{name}.at", f"drawn.{name}.count"]
                     break
             else:

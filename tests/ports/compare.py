@@ -3,6 +3,7 @@ Then three kinds of wrong port, each of which the comparison must see."""
 import itertools
 import os
 import re
+import resource
 import struct
 import subprocess
 import sys
@@ -12,6 +13,7 @@ from concurrent.futures import ThreadPoolExecutor
 from machines import ROOT, TARGETS, TEST, X86, Builder, command, machine_of
 
 import archive
+import elf
 import header
 import module
 import shim
@@ -115,6 +117,22 @@ def library(name):
     return [os.path.join(ROOT, "target", "ports", name, "libuss_c.a")]
 
 
+# what an object may ask of the compiler's own library: docs/CHIPS.md says which does
+ASKED = {"memcpy", "__aeabi_memcpy", "__aeabi_uidiv", "__aeabi_uidivmod"}
+
+
+def outside(name, head):
+    """What is wrong with an archive: other calls than the header's, data in RAM, a function from outside that it may not ask for."""
+    found = []
+    for member, file in elf.members(library(name)[0]).items():
+        if file.names("global") != [member[:-2]] or member[:-2] not in head.calls:
+            found.append(f"{name} {member} offers {' '.join(file.names('global'))}")
+        if file.written():
+            found.append(f"{name} {member} has data")
+        found += [f"{name} {member} asks for {other}" for other in file.names("undefined") if other not in ASKED]
+    return found
+
+
 def compare(builder, name, wanted, head):
     program = builder.link(name, builder.objects(TARGETS[name]), library(name), name)
     return run(name, program, wanted, head)
@@ -192,6 +210,7 @@ def must_differ(name, program, wanted, head):
 
 
 def main():
+    resource.setrlimit(resource.RLIMIT_CORE, (0, 0))  # wrong ports crash
     jobs = int(os.environ.get("RT_JOBS") or min(os.cpu_count() or 1, 4))
     head = header.read(os.path.join(ROOT, "include", "uss.h"))
     builder = Builder()
@@ -208,6 +227,9 @@ def main():
     except (Different, Refused) as why:
         say(False, str(why))
         return 1
+
+    wrong = [text for name in TARGETS if name != "wasm32" for text in outside(name, head)]
+    say(not wrong, "; ".join(wrong) or "archives: an object for each call, no data, no 64-bit division, nothing else from outside")
 
     def one(name):
         try:
