@@ -21,7 +21,7 @@ BENCH = os.path.join(ROOT, "bench")
 TESTS = os.path.join(ROOT, "tests", "ports")
 BARE = ["cortex-m0", "cortex-m3", "cortex-m4", "cortex-m4f", "riscv32"]
 # what is measured against: the peer at its smallest of these
-PEER = [["-Oz"], archive.SIZE[:3], ["-Oz", *archive.SIZE[3:]], archive.SIZE, ["-Os"]]
+PEER = {"-Oz": ["-Oz"], "-Oz, all inlined": archive.SIZE[:3], "-Oz, branches kept": ["-Oz", *archive.SIZE[3:]], "as ours": archive.SIZE, "-Os": ["-Os"]}
 # a firmware's own compiler: its name and what it is told
 GCC = {
     "cortex-m0": ["arm-none-eabi-gcc", "-mcpu=cortex-m0", "-mthumb"],
@@ -89,17 +89,17 @@ class Measure:
         words = self.kit.words(TARGETS[name], False, [TESTS])  # memcpy, where the compiler has no C library
         self.kit.must("clang", [*words, "-Oz", "-ffunction-sections", "-DWITH_LIBGCC", "-c", os.path.join(TESTS, "runtime.c"), "-o", os.path.join(OUT, f"{name}-runtime.o")])
         found = {}
-        peers = [[self.peer(name, flags, str(k))] for k, flags in enumerate(PEER)]
+        peers = {label: [self.peer(name, flags, re.sub(r"\W", "", label))] for label, flags in PEER.items()}
         for what, calls in {"slave": ["uss_slave"], "master": MASTER, **{c: [c] for c in self.head.calls}}.items():
             found[what, "ours"] = self.alone(name, calls, library)
             found[what, "ours linked"] = self.linked(name, calls, library)
             if all(call in PEERS for call in calls):
                 theirs = [PEERS[call] for call in calls]
-                sizes = [self.alone(name, theirs, files) for files in peers]
-                found[what, "peer"] = min(sizes)
-                found[what, "flags"] = " ".join(PEER[sizes.index(min(sizes))])
+                sizes = {label: self.alone(name, theirs, files) for label, files in peers.items()}
+                found[what, "flags"] = min(sizes, key=sizes.get)
+                found[what, "peer"] = sizes[found[what, "flags"]]
                 if found[what, "ours linked"] is not None:
-                    found[what, "peer linked"] = min(self.linked(name, theirs, files) for files in peers)
+                    found[what, "peer linked"] = min(self.linked(name, theirs, files) for files in peers.values())
                     found[what, "gcc linked"] = self.linked(name, theirs, [self.gcc_peer(name)])
         members = elf.members(library[0])
         for call in self.head.calls:

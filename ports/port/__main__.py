@@ -52,7 +52,6 @@ def main(words):
 if __name__ == "__main__":
     try:
         main(sys.argv[1:])
-    except BadInput as why:
-        sys.exit((print(f"ports/build: {why}", file=sys.stderr), 2)[1])
-    except Refused as why:
-        sys.exit((print(f"ports/build: {why}", file=sys.stderr), 1)[1])
+    except (BadInput, Refused, OSError) as why:
+        print(f"ports/build: {why}", file=sys.stderr)
+        sys.exit(1 if isinstance(why, Refused) else 2)

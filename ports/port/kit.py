@@ -40,11 +40,7 @@ class Kit:
             raise BadInput(f"the kit at {self.home} cannot make code for {target.name}: {why}")
         tools = ["llvm-ar", "wasm-ld"] if target.name == "wasm32" else ["llvm-ar"]
         for name in tools:
-            try:
-                status, wrote, _ = self.run(name, ["--version"])
-            except OSError:
-                status = 1
-            if status != 0:
+            if self.run(name, ["--version"])[0] != 0:
                 raise BadInput(f"the kit at {self.home} has no {name}")
 
     def words(self, target, aligned=False, include=()):

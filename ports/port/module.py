@@ -89,6 +89,7 @@ def prove(root, kit, folder):
     os.makedirs(folder)
     kept, links = os.path.join(folder, "module.bc"), os.path.join(folder, "kit")
     linked_kit(kit, links, kept)
+    print(f"proving the library (rt staticlib {LIBRARY}): some minutes where nothing is proved yet", flush=True)
     done = subprocess.run(["rt", "staticlib", LIBRARY], cwd=root, env={**os.environ, "RATTLE_HOME": links},
                           stdout=subprocess.PIPE, stderr=subprocess.STDOUT, text=True)
     shutil.rmtree(links)

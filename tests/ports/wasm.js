@@ -16,7 +16,9 @@ function write(bytes) {
     }
 }
 
-const uss = new WebAssembly.Instance(new WebAssembly.Module(fs.readFileSync(ussPath)), {}).exports;
+const ussModule = new WebAssembly.Module(fs.readFileSync(ussPath));
+if (WebAssembly.Module.imports(ussModule).length > 0) throw new Error("uss.wasm imports something");
+const uss = new WebAssembly.Instance(ussModule, {}).exports;
 if (uss.__heap_base.value > page) throw new Error("uss.wasm needs more than its first page");
 uss.memory.grow(31);
 const host = { write: (at, len) => write(new Uint8Array(uss.memory.buffer, at, len)) };
