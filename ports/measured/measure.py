@@ -14,6 +14,7 @@ from machines import ROOT, TARGETS, X86, Builder, command, machine_of
 import archive
 import elf
 import header
+import module
 from refuse import Refused
 
 OUT = os.path.join(ROOT, "target", "ports", "measured")
@@ -189,6 +190,23 @@ class Measure:
         return list(zip(names.decode().strip().split("\n"), counts))
 
 
+    # ---- the page
+
+    def page(self, found, stacks, rows):
+        """The figures of docs/CHIPS.md that are not those measured."""
+        folder = os.path.join(OUT, "aligned")
+        proved = module.read(os.path.join(ROOT, "target", "ports", "module", "module.ll"))
+        archive.build(ROOT, self.kit, TARGETS["cortex-m3"], True, self.head, proved, folder)
+        figures = {"slave, Cortex-M3": found["cortex-m3"]["slave", "ours"], "slave, Cortex-M0": found["cortex-m0"]["slave", "ours"],
+                   "slave, Cortex-M3, --aligned": elf.members(os.path.join(folder, "libuss_c.a"))["uss_slave.o"].flash()}
+        for name in ("cortex-m3", "cortex-m0"):
+            figures |= {f"stack of {call}, {name}": stacks[name, "ours"][call] for call in ("uss_slave", "uss_list")}
+        figures |= {row: n for row, n in rows if row in ("read, 1 record", "read, 16 records", "read, 512 records")}
+        with open(os.path.join(ROOT, "docs", "CHIPS.md")) as file:
+            text = file.read()
+        return [f"{name} {n:,}" for name, n in figures.items() if not re.search(rf"(?<![\d,]){n:,}(?![\d,])", text)]
+
+
 # ---- tables
 
 
@@ -230,6 +248,8 @@ def main():
     ours, theirs = m.rows("cortex-m3", "ours"), m.rows("cortex-m3", "peer")
     print("Instructions of one call on cortex-m3, by the emulator's log:\n")
     table(["row", "ours", "peer", "ratio"], [[row, n, other, ratio(n, other)] for (row, n), (_, other) in zip(ours, theirs)])
+    old = m.page(found, stacks, ours)
+    print("docs/CHIPS.md has these figures" if not old else f"docs/CHIPS.md does not have: {'; '.join(old)}")
 
 
 if __name__ == "__main__":
