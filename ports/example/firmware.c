@@ -111,6 +111,7 @@ static void halt(void)
 }
 
 __attribute__((section(".vectors"), used)) const void *const vectors[17] = {
-    stack_top, (const void *)start, (const void *)halt, (const void *)halt, (const void *)halt, (const void *)halt, (const void *)halt,
-    0, 0, 0, 0, (const void *)halt, (const void *)halt, 0, (const void *)halt, (const void *)halt, (const void *)uart_received,
+    stack_top,          (const void *)start, (const void *)halt, (const void *)halt, (const void *)halt, (const void *)halt,
+    (const void *)halt, 0, 0, 0, 0,          (const void *)halt, (const void *)halt, 0,                  (const void *)halt,
+    (const void *)halt, (const void *)uart_received,
 };

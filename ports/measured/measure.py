@@ -20,9 +20,12 @@ from refuse import Refused
 OUT = os.path.join(ROOT, "target", "ports", "measured")
 BENCH = os.path.join(ROOT, "bench")
 TESTS = os.path.join(ROOT, "tests", "ports")
+INCLUDE = os.path.join(ROOT, "include")
 BARE = ["cortex-m0", "cortex-m3", "cortex-m4", "cortex-m4f", "riscv32"]
+SECTIONS = ["-ffunction-sections", "-fdata-sections"]
 # what is measured against: the peer at its smallest of these
-PEER = {"-Oz": ["-Oz"], "-Oz, all inlined": archive.SIZE[:3], "-Oz, branches kept": ["-Oz", *archive.SIZE[3:]], "as ours": archive.SIZE, "-Os": ["-Os"]}
+PEER = {"-Oz": ["-Oz"], "-Oz, all inlined": archive.SIZE[:3], "-Oz, branches kept": ["-Oz", *archive.SIZE[3:]],
+        "as ours": archive.SIZE, "-Os": ["-Os"]}
 # a firmware's own compiler: its name and what it is told
 GCC = {
     "cortex-m0": ["arm-none-eabi-gcc", "-mcpu=cortex-m0", "-mthumb"],
@@ -35,111 +38,121 @@ PEERS = {"uss_slave": "peer_slave", "uss_build_task": "peer_build_task", "uss_re
 MASTER = ["uss_build_task", "uss_read_reply"]
 
 
+def out(*names):
+    return os.path.join(OUT, "-".join(names))
+
+
+def library(name):
+    return os.path.join(ROOT, "target", "ports", name, "libuss_c.a")
+
+
+def here(gcc):
+    return shutil.which(gcc) is not None
+
+
+def said(words):
+    return subprocess.run(words, capture_output=True, text=True, check=True).stdout.strip()
+
+
 class Measure:
     def __init__(self):
         self.builder = Builder()
         self.kit = self.builder.kit
-        self.head = header.read(os.path.join(ROOT, "include", "uss.h"))
+        self.head = header.read(os.path.join(INCLUDE, "uss.h"))
         shutil.rmtree(OUT, ignore_errors=True)
         os.makedirs(OUT)
 
-    # ---- bytes
+    def clang(self, name, source, to, *more):
+        words = self.kit.words(TARGETS[name], False, [INCLUDE, BENCH, TESTS, OUT])
+        self.kit.must("clang", [*words, *more, "-c", source, "-o", to])
+        return to
 
     def peer(self, name, flags, label):
-        """bench/peer.c for a target. Not -ffreestanding: its memcpy of a few bytes is to become loads and stores."""
-        words = [w for w in self.kit.words(TARGETS[name], False, [os.path.join(ROOT, "include"), BENCH]) if w != "-ffreestanding"]
-        out = os.path.join(OUT, f"{name}-{label}-peer.o")
-        self.kit.must("clang", [*words, "-std=c99", *flags, "-ffunction-sections", "-fdata-sections", "-c", os.path.join(BENCH, "peer.c"), "-o", out])
-        return out
+        """bench/peer.c for a target. Its memcpy of a few bytes is to become loads and stores, so builtins are on."""
+        source = os.path.join(BENCH, "peer.c")
+        return self.clang(name, source, out(name, label, "peer.o"), "-fbuiltin", "-fhosted", "-std=c99", *flags, *SECTIONS)
 
-    def alone(self, name, calls, files):
+    def peer_by_gcc(self, name):
+        gcc, to = GCC[name], out(name, "gcc-peer.o")
+        # the compiler for RISC-V comes without a C library
+        include = [INCLUDE, BENCH] + ([] if gcc[0].startswith("arm") else [os.path.join(ROOT, "ports", "include")])
+        words = [*gcc, "-Os", "-std=c99", *SECTIONS, *(f"-I{path}" for path in include)]
+        said([*words, "-c", os.path.join(BENCH, "peer.c"), "-o", to])
+        return to
+
+    def libgcc(self, name):
+        """The firmware compiler's own library, and what runtime.c is told then; nothing where it is not here."""
+        gcc = GCC[name]
+        return ([said([*gcc, "-print-libgcc-file-name"])], ["-DWITH_LIBGCC"]) if here(gcc[0]) else ([], [])
+
+    # ---- bytes
+
+    def alone(self, calls, file):
         """Bytes of the calls and all that they reach, without a library."""
-        out = os.path.join(OUT, "alone")
         roots = [word for call in calls for word in ("-u", call)]
-        self.kit.must("ld.lld", ["--gc-sections", "--unresolved-symbols=ignore-all", "-e", calls[0], *roots, *files, "-o", out])
-        return elf.read(out).flash()
+        words = ["--gc-sections", "--unresolved-symbols=ignore-all", "-e", calls[0], *roots]
+        self.kit.must("ld.lld", [*words, file, "-o", out("alone")])
+        return elf.read(out("alone")).flash()
 
-    def linked(self, name, calls, files):
+    def linked(self, name, calls, file):
         """The same as the firmware's own compiler links it, with its library; None where that compiler is not here."""
         gcc = GCC[name]
-        if shutil.which(gcc[0]) is None:
+        if not here(gcc[0]):
             return None
-        out = os.path.join(OUT, "linked")
-        words = [*gcc, "-nostartfiles", "-Wl,--gc-sections", f"-Wl,-e,{calls[0]}", *(f"-Wl,-u,{call}" for call in calls), *files, "-o", out]
-        words += ["--specs=nano.specs"] if gcc[0].startswith("arm") else ["-nostdlib", os.path.join(OUT, f"{name}-runtime.o"), "-lgcc"]
-        done = subprocess.run(words, capture_output=True, text=True)
+        words = [*gcc, "-nostartfiles", "-Wl,--gc-sections", f"-Wl,-e,{calls[0]}", *(f"-Wl,-u,{call}" for call in calls), file]
+        words += ["--specs=nano.specs"] if gcc[0].startswith("arm") else ["-nostdlib", out(name, "runtime.o"), "-lgcc"]
+        done = subprocess.run([*words, "-o", out("linked")], capture_output=True, text=True)
         if done.returncode != 0:
             raise Refused(f"{' '.join(words)}: {done.stderr.strip()}")
         warned = [line for line in done.stderr.split("\n") if "warning" in line and "libuss_c.a" in line]
         if warned:
             raise Refused(f"{gcc[0]} warns: {warned[0]}")
-        return elf.read(out).flash()
-
-    def gcc_peer(self, name):
-        gcc = GCC[name]
-        out = os.path.join(OUT, f"{name}-gcc-peer.o")
-        words = [*gcc, "-Os", "-std=c99", "-ffunction-sections", "-fdata-sections", f"-I{ROOT}/include", f"-I{BENCH}", "-c", os.path.join(BENCH, "peer.c"), "-o", out]
-        if not gcc[0].startswith("arm"):  # this compiler comes without a C library
-            words[1:1] = [f"-I{ROOT}/ports/include"]
-        subprocess.run(words, check=True)
-        return out
+        return elf.read(out("linked")).flash()
 
     def bytes_of(self, name):
-        """{(what, who): bytes} of a target."""
-        library = [os.path.join(ROOT, "target", "ports", name, "libuss_c.a")]
-        words = self.kit.words(TARGETS[name], False, [TESTS])  # memcpy, where the compiler has no C library
-        self.kit.must("clang", [*words, "-Oz", "-ffunction-sections", "-DWITH_LIBGCC", "-c", os.path.join(TESTS, "runtime.c"), "-o", os.path.join(OUT, f"{name}-runtime.o")])
+        """{(what, who): bytes} of a target, and what each call asks of the compiler's library."""
+        # memcpy, where the compiler has no C library
+        self.clang(name, os.path.join(TESTS, "runtime.c"), out(name, "runtime.o"), "-Oz", "-DWITH_LIBGCC", *SECTIONS)
+        peers = {label: self.peer(name, flags, re.sub(r"\W", "", label)) for label, flags in PEER.items()}
         found = {}
-        peers = {label: [self.peer(name, flags, re.sub(r"\W", "", label))] for label, flags in PEER.items()}
-        for what, calls in {"slave": ["uss_slave"], "master": MASTER, **{c: [c] for c in self.head.calls}}.items():
-            found[what, "ours"] = self.alone(name, calls, library)
-            found[what, "ours linked"] = self.linked(name, calls, library)
+        for what, calls in {"slave": ["uss_slave"], "master": MASTER, **{call: [call] for call in self.head.calls}}.items():
+            found[what, "ours"] = self.alone(calls, library(name))
+            found[what, "ours linked"] = self.linked(name, calls, library(name))
             if all(call in PEERS for call in calls):
                 theirs = [PEERS[call] for call in calls]
-                sizes = {label: self.alone(name, theirs, files) for label, files in peers.items()}
+                sizes = {label: self.alone(theirs, file) for label, file in peers.items()}
                 found[what, "flags"] = min(sizes, key=sizes.get)
                 found[what, "peer"] = sizes[found[what, "flags"]]
-                if found[what, "ours linked"] is not None:
-                    found[what, "peer linked"] = min(self.linked(name, theirs, files) for files in peers.values())
-                    found[what, "gcc linked"] = self.linked(name, theirs, [self.gcc_peer(name)])
-        members = elf.members(library[0])
-        for call in self.head.calls:
-            found[call, "needs"] = " ".join(members[f"{call}.o"].names("undefined")) or "nothing"
-            if members[f"{call}.o"].written():
-                raise Refused(f"{name}: {call} has data in RAM")
+                if here(GCC[name][0]):
+                    found[what, "peer linked"] = min(self.linked(name, theirs, file) for file in peers.values())
+                    found[what, "gcc linked"] = self.linked(name, theirs, self.peer_by_gcc(name))
+        for member, file in elf.members(library(name)).items():
+            found[member[:-2], "needs"] = " ".join(file.names("undefined")) or "nothing"
         return found
 
     # ---- stack and instructions, on the emulator
 
-    def libgcc(self, name):
-        """The firmware compiler's own library, and what runtime.c is told then; nothing where it is not here."""
-        gcc = GCC[name]
-        if shutil.which(gcc[0]) is None:
-            return [], []
-        return [subprocess.run([*gcc, "-print-libgcc-file-name"], capture_output=True, text=True, check=True).stdout.strip()], ["-DWITH_LIBGCC"]
-
-    def stream(self, name, program, log=()):
+    def stream(self, name, program, *more):
         words = command(name, program)
-        words[1:1] = log
-        done = subprocess.run(words, stdin=subprocess.DEVNULL, capture_output=True, timeout=600)
+        done = subprocess.run([words[0], *more, *words[1:]], stdin=subprocess.DEVNULL, capture_output=True, timeout=600)
         if done.returncode != 0:
             raise Refused(f"{program} ends with status {done.returncode}: {done.stderr.decode(errors='replace')[-200:]}")
         return done.stdout
 
     def reference(self):
-        archive_ = os.path.join(ROOT, "target", "ports", "module", "libuss_c.a")
-        return self.stream("x86-64", self.builder.link("x86-64", self.builder.objects(X86, "-stack"), [archive_], "x86-64-stack"))
+        """The driver's stream on x86-64."""
+        x86 = os.path.join(ROOT, "target", "ports", "module", "libuss_c.a")
+        return self.stream("x86-64", self.builder.link("x86-64", self.builder.objects(X86, "-stack"), [x86], "x86-64-stack"))
 
     def stacks(self, name, who, wanted):
         """Bytes of stack of each call, the deepest of all that the driver makes. The answers are x86-64's, the peer's too."""
         libgcc, own = self.libgcc(name)
-        more = ["-DSTACK", *own]
-        library = [os.path.join(ROOT, "target", "ports", name, "libuss_c.a"), *libgcc]
+        files, more = [library(name), *libgcc], ["-DSTACK", *own]
         if who == "peer":
+            files.insert(0, self.peer(name, ["-Oz"], "stack"))
             more += [f"-D{ours}={peer}" for ours, peer in PEERS.items()]
-            library.insert(0, self.peer(name, ["-Oz"], "stack"))
-        program = self.builder.link(name, self.builder.objects(TARGETS[name], f"-stack-{who}", more), library, f"{name}-stack-{who}")
-        got = self.stream(name, program)
+        objects = self.builder.objects(TARGETS[name], f"-stack-{who}", more)
+        got = self.stream(name, self.builder.link(name, objects, files, f"{name}-stack-{who}"))
         if got[:len(wanted)] != wanted:
             raise Refused(f"{name}: the answers of {who} are not those of x86-64")
         deepest = struct.unpack("<64I", got[len(wanted):])
@@ -148,60 +161,59 @@ class Measure:
             raise Refused(f"{name}: a call needs more stack than was painted")
         return {call: n for call, n in found.items() if who == "ours" or call in PEERS}
 
-    def rows(self, name, who):
-        """[(row, instructions)]: what the emulator's log has between two marks, in the section of what is measured."""
+    def rows_program(self, name, who):
+        """The rows of bench/bench.c as a program for a board."""
         with open(os.path.join(BENCH, "bench.c")) as file:
-            text = file.read()
-        part = re.search(r"^#ifndef SLAVE\n.*?(?=^/\* ---- compare \*/$)", text, re.M | re.S)
+            part = re.search(r"^#ifndef SLAVE\n.*?(?=^/\* ---- compare \*/$)", file.read(), re.M | re.S)
         if part is None:
             raise Refused("bench/bench.c has no part that makes the rows")
-        archive.write(os.path.join(OUT, "rows.h"), part[0])
-        target = TARGETS[name]
-        libgcc, own = self.libgcc(name)
-        words = self.kit.words(target, False, [os.path.join(ROOT, "include"), BENCH, TESTS, OUT])
+        archive.write(out("rows.h"), part[0])
+        libgcc, more = self.libgcc(name)
+        files = [library(name), *libgcc]
         if who == "peer":
-            words += ["-DSLAVE=peer_slave", "-DBUILD_TASK=peer_build_task", "-DREAD_REPLY=peer_read_reply", "-DBCC=peer_bcc"]
-        objects = []
-        for source in (os.path.join(HERE, "rows.c"), os.path.join(BENCH, "floor.c"), os.path.join(TESTS, "runtime.c"), os.path.join(TESTS, machine_of(name))):
-            out = os.path.join(OUT, f"{name}-{who}-{os.path.basename(source)}.o")
-            self.kit.must("clang", [*words, *own, "-Os", "-Wno-unused-function", "-c", source, "-o", out])
-            objects.append(out)
-        library = os.path.join(ROOT, "target", "ports", name, "libuss_c.a")
-        measured = [library] if who == "ours" else [self.peer(name, ["-Oz"], "rows")] + [library]
-        program = self.builder.link(name, objects, [*measured, *libgcc], f"{name}-rows-{who}", os.path.join(HERE, "rows.ld"))
+            more = more + [f"-D{ours[4:].upper()}={peer}" for ours, peer in PEERS.items()]
+            files.insert(0, self.peer(name, ["-Oz"], "rows"))
+        sources = [os.path.join(HERE, "rows.c"), os.path.join(BENCH, "floor.c"), os.path.join(TESTS, "runtime.c"),
+                   os.path.join(TESTS, machine_of(name))]
+        objects = [self.clang(name, source, out(name, who, os.path.basename(source) + ".o"), "-Os", *more) for source in sources]
+        return self.builder.link(name, objects, files, f"{name}-rows-{who}", os.path.join(HERE, "rows.ld"))
+
+    def rows(self, name, who):
+        """[(row, instructions)]: what the emulator's log has between two marks, in the section of what is measured."""
+        program = self.rows_program(name, who)
         file = elf.read(program)
         section = next(s for s in file.sections if s.name == ".measured")
-        mark = file.symbol("mark").value & ~1
-        log = os.path.join(OUT, f"{name}-{who}.log")
-        names = self.stream(name, program, ["-singlestep", "-d", "exec,nochain", "-D", log, "-dfilter", f"{section.address:#x}+{section.size:#x}"])
+        mark = file.symbol("mark")
+        first, after = mark.value & ~1, (mark.value & ~1) + mark.size
+        log = out(f"{name}-{who}.log")
+        kept = f"{section.address:#x}+{section.size:#x}"
+        names = self.stream(name, program, "-singlestep", "-d", "exec,nochain", "-D", log, "-dfilter", kept)
         counts, between = [], False
         with open(log) as lines:
             for line in lines:
                 match = re.match(r"Trace \d+: \S+ \[[0-9a-f]+/([0-9a-f]+)/", line)
-                if match is None:
-                    continue
-                at = int(match[1], 16)
-                if at == mark:
+                at = int(match[1], 16) if match else first + 1
+                if at == first:
                     between = not between
                     counts += [0] if between else []
-                elif between and at > mark + 2:
+                elif between and not first <= at < after:
                     counts[-1] += 1
         os.remove(log)
         return list(zip(names.decode().strip().split("\n"), counts))
-
 
     # ---- the page
 
     def page(self, found, stacks, rows):
         """The figures of docs/CHIPS.md that are not those measured."""
-        folder = os.path.join(OUT, "aligned")
+        folder = out("aligned")
         proved = module.read(os.path.join(ROOT, "target", "ports", "module", "module.ll"))
         archive.build(ROOT, self.kit, TARGETS["cortex-m3"], True, self.head, proved, folder)
+        aligned = elf.members(os.path.join(folder, "libuss_c.a"))["uss_slave.o"].flash()
         figures = {"slave, Cortex-M3": found["cortex-m3"]["slave", "ours"], "slave, Cortex-M0": found["cortex-m0"]["slave", "ours"],
-                   "slave, Cortex-M3, --aligned": elf.members(os.path.join(folder, "libuss_c.a"))["uss_slave.o"].flash()}
+                   "slave, Cortex-M3, --aligned": aligned}
         for name in ("cortex-m3", "cortex-m0"):
-            figures |= {f"stack of {call}, {name}": stacks[name, "ours"][call] for call in ("uss_slave", "uss_list")}
-        figures |= {row: n for row, n in rows if row in ("read, 1 record", "read, 16 records", "read, 512 records")}
+            figures.update({f"stack of {call}, {name}": stacks[name, "ours"][call] for call in ("uss_slave", "uss_list")})
+        figures.update({row: n for row, n in rows if row in ("read, 1 record", "read, 16 records", "read, 512 records")})
         with open(os.path.join(ROOT, "docs", "CHIPS.md")) as file:
             text = file.read()
         return [f"{name} {n:,}" for name, n in figures.items() if not re.search(rf"(?<![\d,]){n:,}(?![\d,])", text)]
@@ -222,28 +234,41 @@ def table(head, rows):
     print()
 
 
-def main():
-    m = Measure()
+def tools(m):
     print(m.kit.must("clang", ["--version"]).split("\n")[0])
     for gcc in sorted({words[0] for words in GCC.values()}):
-        print(subprocess.run([gcc, "--version"], capture_output=True, text=True).stdout.split("\n")[0] if shutil.which(gcc) else f"{gcc} is not here: nothing is linked with its library")
-    print(subprocess.run(["qemu-system-arm", "--version"], capture_output=True, text=True).stdout.split("\n")[0])
-    found = {name: m.bytes_of(name) for name in BARE}
+        print(said([gcc, "--version"]).split("\n")[0] if here(gcc) else f"{gcc} is not here: nothing is linked with its library")
+    print(said(["qemu-system-arm", "--version"]).split("\n")[0])
 
+
+def bytes_row(name, f, what):
+    linked = f[what, "ours linked"], f.get((what, "peer linked"))
+    return [name, f[what, "ours"], f[what, "peer"], ratio(f[what, "ours"], f[what, "peer"]), *linked, ratio(*linked),
+            f.get((what, "gcc linked")), f[what, "flags"]]
+
+
+def beside(f, call):
+    return f"{f[call, 'ours']} ({f[call, 'peer']})" if (call, "peer") in f else f[call, "ours"]
+
+
+def main():
+    m = Measure()
+    tools(m)
+    found = {name: m.bytes_of(name) for name in BARE}
     for what, title in (("slave", "the slave call"), ("master", "the master's two calls, build and read")):
         print(f"\nBytes of {title}, code and constants:\n")
-        table(["target", "ours", "peer", "ratio", "ours with library", "peer with library", "ratio", "peer by gcc -Os with library", "peer's flags"],
-              [[name, f[what, "ours"], f[what, "peer"], ratio(f[what, "ours"], f[what, "peer"]), f[what, "ours linked"], f.get((what, "peer linked")),
-                ratio(f[what, "ours linked"], f.get((what, "peer linked"))), f.get((what, "gcc linked")), f[what, "flags"]] for name, f in found.items()])
+        table(["target", "ours", "peer", "ratio", "ours with library", "peer with library", "ratio", "peer by gcc -Os with library",
+               "peer's flags"], [bytes_row(name, f, what) for name, f in found.items()])
     print("Bytes of each call, without a library; of the peer in brackets:\n")
-    table(["call", *BARE], [[call, *(f"{f[call, 'ours']}" + (f" ({f[call, 'peer']})" if (call, "peer") in f else "") for f in found.values())] for call in m.head.calls])
+    table(["call", *BARE], [[call, *(beside(f, call) for f in found.values())] for call in m.head.calls])
     print("What each call takes from the compiler's library:\n")
     table(["call", *BARE], [[call, *(f[call, "needs"] for f in found.values())] for call in m.head.calls])
 
     wanted = m.reference()
     stacks = {(name, who): m.stacks(name, who, wanted) for name in ("cortex-m3", "cortex-m0") for who in ("ours", "peer")}
     print("Bytes of stack, the deepest of all calls of tests/ports:\n")
-    table(["call", "cortex-m3", "peer", "cortex-m0", "peer"], [[call, *(stacks[key].get(call) for key in stacks)] for call in m.head.calls])
+    table(["call", "cortex-m3", "peer", "cortex-m0", "peer"],
+          [[call, *(deepest.get(call) for deepest in stacks.values())] for call in m.head.calls])
 
     ours, theirs = m.rows("cortex-m3", "ours"), m.rows("cortex-m3", "peer")
     print("Instructions of one call on cortex-m3, by the emulator's log:\n")

@@ -40,7 +40,8 @@ def build(root, kit, target, aligned, header, module, folder):
     kit.must("llvm-ar", ["rcsD", f"../lib{LIBRARY}.a", *objects], made)
     if target.name == "wasm32":
         exports = [f"--export={name}" for name in sorted(shims)]
-        kit.must("wasm-ld", ["--no-entry", "--strip-all", "--stack-first", "-z", "stack-size=8192", *exports, "--export=__heap_base",
-                              f"../lib{LIBRARY}.a", "-o", "../uss.wasm"], made)
+        stack = ["--stack-first", "-z", "stack-size=8192"]
+        kit.must("wasm-ld", ["--no-entry", "--strip-all", *stack, *exports, "--export=__heap_base", f"../lib{LIBRARY}.a",
+                             "-o", "../uss.wasm"], made)
     shutil.rmtree(folder, ignore_errors=True)
     os.rename(fresh, folder)

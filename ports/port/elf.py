@@ -30,7 +30,7 @@ class Elf:
             form, size = ("<IBBHQQ", 24) if wide else ("<IIIBBH", 16)
             for k in range(1, table.size // size):
                 row = struct.unpack_from(form, data, table.offset + size * k)
-                n, info, where, value, length = (row[0], row[1], row[3], row[4], row[5]) if wide else (row[0], row[3], row[5], row[1], row[2])
+                n, info, where, value, length = [row[k] for k in ((0, 1, 3, 4, 5) if wide else (0, 3, 5, 1, 2))]
                 kind = "undefined" if where == 0 else "global" if info >> 4 else "local"
                 self.symbols.append(Symbol(text(strings, n), value, length, where, kind))
 

@@ -45,7 +45,8 @@ class Kit:
 
     def words(self, target, aligned=False, include=()):
         """What clang is told for each file of a target."""
-        words = ["--no-default-config", "-no-canonical-prefixes", "-nostdinc", "-isystem", INCLUDE, "-ffreestanding", "-Wno-unused-command-line-argument"]
+        words = ["--no-default-config", "-no-canonical-prefixes", "-Wno-unused-command-line-argument"]
+        words += ["-nostdinc", "-isystem", INCLUDE, "-ffreestanding"]
         for folder in include:
             words += ["-I", folder]
         return words + target.words + (target.aligned or [] if aligned else [])

@@ -110,7 +110,7 @@ def prove(root, kit, folder):
 
 # ---- reading
 
-# All words that may stand in a function, but for names and numbers: nothing in them means one thing on x86-64 and another elsewhere.
+# All words that may stand in a function, but for names and numbers: none of them means one thing on x86-64 and another elsewhere.
 OPCODES = set("""add alloca and ashr br call getelementptr icmp load lshr mul or phi ret sdiv select sext shl srem store sub switch
     trunc udiv unreachable urem xor zext""".split())
 WORDS = OPCODES | set("""align eq exact false i1 i16 i32 i64 i8 inbounds label ne noundef nsw nuw ptr range sge sgt sle slt to true

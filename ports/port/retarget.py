@@ -1,6 +1,6 @@
 """The module for another target: its x86-64 functions for C left out, the inner ones that the shims call made visible, and layout,
 triple, cpu, features and the extension of returned numbers taken from what clang writes for the shims on that target. Where
-pointers have 32 bits, a division of 64 bits asks first whether one of 32 does: counts have 32 bits there, and clang then sees it."""
+pointers have 32 bits, a division of 64 bits asks first whether one of 32 does it: counts have 32 bits there, which clang sees."""
 import re
 
 from module import LIBRARY

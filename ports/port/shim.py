@@ -34,11 +34,12 @@ def compare_module(header, module, library):
             wanted, moved = ["ptr"], [header.structs[call.returns].size]
         for p in call.parameters:
             wanted.append(IR[p.type] if p.kind == "number" else "ptr")
-            moved.append({"number": None, "slice": PAIR}.get(p.kind) or p.kind == "struct" and header.structs[p.type].size or None)
+            moved.append(PAIR if p.kind == "slice" else header.structs[p.type].size if p.kind == "struct" else None)
         found = [type_ for type_, _ in function.parameters]
         returns = IR.get(call.returns, "void")
         if (function.returns, found) != (returns, wanted):
-            raise Refused(f"{call.name}: the module has {function.returns} ({', '.join(found)}), the header {returns} ({', '.join(wanted)})")
+            raise Refused(f"{call.name}: the module has {function.returns} ({', '.join(found)}), "
+                          f"the header {returns} ({', '.join(wanted)})")
         for (_, name), size in zip(function.parameters, moved):
             if size is not None:
                 compare_copies(call, name, size, function.body)
@@ -47,7 +48,8 @@ def compare_module(header, module, library):
 def compare_copies(call, name, size, body):
     """Wherever a pointer parameter is used, exactly the bytes that the header says are copied."""
     uses = [line for line in body if re.search(re.escape(name) + r"\b", line)]
-    copy = re.compile(rf"  call void @llvm\.memmove\.p0\.p0\.i64\(ptr (?:{name}, ptr %r\d+|%r\d+, ptr {name}), i64 {size}, i1 false\)")
+    places = rf"ptr (?:{name}, ptr %r\d+|%r\d+, ptr {name})"
+    copy = re.compile(rf"  call void @llvm\.memmove\.p0\.p0\.i64\({places}, i64 {size}, i1 false\)")
     if not uses or not all(copy.fullmatch(line) for line in uses):
         raise Refused(f"{call.name}: the module does not copy {name} as {size} bytes: {uses[:1] or 'not used'}")
 

@@ -30,7 +30,8 @@ def pairs(text):
 def compare(header, root):
     structs, calls = {}, {}
     for name in needed(root):
-        for struct, fields in re.findall(r"#\[repr\(C\)\]\s*pub struct (\w+)\s*\{([^}]*)\}", texts(os.path.join(root, "crates", name, "src"))):
+        text = texts(os.path.join(root, "crates", name, "src"))
+        for struct, fields in re.findall(r"#\[repr\(C\)\]\s*pub struct (\w+)\s*\{([^}]*)\}", text):
             structs.setdefault(struct, []).append(pairs(fields))
     own = texts(os.path.join(root, "crates", LIBRARY, "src"))
     for name, parameters, returns in re.findall(r'#\[no_mangle\]\s*pub extern "C" fn (\w+)\s*\(([^)]*)\)\s*->\s*([\w:]+)', own):

@@ -1,6 +1,6 @@
 """Writes calls.h, the driver's part that follows from uss.h: for each call a wrapper `do_NAME` that lends copies of its slices,
 calls, and writes answer and slices to the stream, and a `random_NAME` that draws its arguments. A parameter with the name and type
-of a field of the driver's `drawn` takes that; any other is drawn by its type. So a new call in uss.h is compared with no hand work."""
+of a field of the driver's `drawn` takes that, any other is drawn by its type: a new call in uss.h is compared with no hand work."""
 import os
 import sys
 
@@ -39,8 +39,8 @@ def wrapper(head, call, number):
     size = 8 if call.returns in header.NUMBERS else sum(n for _, n in numbers)
     length = " + ".join([str(size)] + [f"slice_bytes({'1' if p.const else '0'}, sizeof *{p.name} * {p.count})" for p in slices])
     text = call.text.replace(f" {call.name}(", f" do_{call.name}(", 1)
-    return "\n".join([f"static {text}", "{", *lines, f"    {call.returns} r;", "    PAINT", f"    r = {call.name}({', '.join(given)});",
-                      f"    LOOK({number})",
+    return "\n".join([f"static {text}", "{", *lines, f"    {call.returns} r;",
+                      "    PAINT", f"    r = {call.name}({', '.join(given)});", f"    LOOK({number})",
                       f"    begin({number}, (uint32_t)({length}));", *puts, *after, "    return r;", "}", ""])
 
 

@@ -51,7 +51,8 @@ def tell(head, wanted, got, place):
             name = names(head)[what]
             if what == 0:
                 name = f"the check {contents[1:].decode()}"
-            return f"differs at byte {place}, record {number}, {name}: x86-64 has {wanted[place:place + 8].hex()}, here is {got[:8].hex() or 'the end'}"
+            here = got[:8].hex() or "the end"
+            return f"differs at byte {place}, record {number}, {name}: x86-64 has {wanted[place:place + 8].hex()}, here is {here}"
     return f"writes more than x86-64: {got[:8].hex()}"
 
 
@@ -88,7 +89,8 @@ def run(name, program, wanted, head):
 def reference(builder, head):
     """The stream of the archive that rt staticlib wrote for x86-64. Every check in it holds; every answer number, every parameter
     error and every known telegram is one of them; every call of the header was made."""
-    program = builder.link("x86-64", builder.objects(X86), [os.path.join(ROOT, "target", "ports", "module", "libuss_c.a")], "x86-64")
+    own = os.path.join(ROOT, "target", "ports", "module", "libuss_c.a")
+    program = builder.link("x86-64", builder.objects(X86), [own], "x86-64")
     with open(REFERENCE, "wb") as file:
         done = subprocess.run([program], stdout=file)
     with open(REFERENCE, "rb") as file:
@@ -100,9 +102,11 @@ def reference(builder, head):
             checks[contents[1:].decode()] = contents[0]
     broken = [name for name, holds in checks.items() if not holds]
     wanted = [f"K{k}" for k in range(1, 13)] + [name for enum in ("uss_number", "uss_error") for name in head.constants[enum]]
-    missing = [name for name in wanted if name not in checks] + [name for name, count in made.items() if count < 1000 and name != "check"]
+    missing = [name for name in wanted if name not in checks]
+    missing += [name for name, count in made.items() if count < 1000 and name != "check"]
     if done.returncode != 0 or broken or missing:
-        raise Different(f"x86-64: status {done.returncode}, broken: {' '.join(broken) or 'none'}, without a case: {' '.join(missing) or 'none'}")
+        raise Different(f"x86-64: status {done.returncode}, broken: {' '.join(broken) or 'none'}, "
+                        f"without a case: {' '.join(missing) or 'none'}")
     calls = sum(made.values()) - made["check"]
     if calls < 100000:
         raise Different(f"x86-64: {calls} calls are too few")
@@ -122,7 +126,7 @@ ASKED = {"memcpy", "__aeabi_memcpy", "__aeabi_uidiv", "__aeabi_uidivmod"}
 
 
 def outside(name, head):
-    """What is wrong with an archive: other calls than the header's, data in RAM, a function from outside that it may not ask for."""
+    """What is wrong with an archive: other calls than the header's, data in RAM, a function from outside not named above."""
     found = []
     for member, file in elf.members(library(name)[0]).items():
         if file.names("global") != [member[:-2]] or member[:-2] not in head.calls:
@@ -151,7 +155,7 @@ def compare_aligned(builder, name, wanted, head):
 
 
 def wrong_program(builder, name, label, files, head):
-    """A driver over a library that is put together wrongly: (file, text, words) to be compiled, in the place of the right members."""
+    """A driver over a library that is put together wrongly: (file, text, words) to be compiled, in the place of right members."""
     target, folder = TARGETS[name], os.path.join(TEST, f"wrong-{name}-{label}")
     os.makedirs(folder, exist_ok=True)
     words = builder.kit.words(target, False, [os.path.join(ROOT, "include")])
@@ -195,7 +199,8 @@ def one_too_many(builder, name, head):
     call = head.calls["uss_bcc"]
     port = os.path.join(ROOT, "target", "ports", name, "made", "port.bc")
     text = shim.opening(head) + shim.shim_of(head, call).replace("}, len}", "}, len + 1}")
-    return wrong_program(builder, name, "count", [("uss_bcc.c", text, ["-Xclang", "-mlink-builtin-bitcode", "-Xclang", port])], head)
+    words = ["-Xclang", "-mlink-builtin-bitcode", "-Xclang", port]
+    return wrong_program(builder, name, "count", [("uss_bcc.c", text, words)], head)
 
 
 def must_differ(name, program, wanted, head):
@@ -245,10 +250,11 @@ def main():
     with ThreadPoolExecutor(jobs) as pool:
         for name, good, text in pool.map(one, TARGETS):
             say(good, text)
+        trapped = "cortex-m3 --aligned, unaligned accesses trapped"
         try:
-            say(True, f"cortex-m3 --aligned, unaligned accesses trapped: the same bytes as x86-64 ({compare_aligned(builder, 'cortex-m3', wanted, head):.1f} s)")
+            say(True, f"{trapped}: the same bytes as x86-64 ({compare_aligned(builder, 'cortex-m3', wanted, head):.1f} s)")
         except (Different, Refused) as why:
-            say(False, f"cortex-m3 --aligned, unaligned accesses trapped: {why}")
+            say(False, f"{trapped}: {why}")
         for name in ("armv7-linux", "riscv64-linux"):
             seen = must_differ(name, not_extended(builder, name, head), wanted, head)
             say(seen is not None, f"{name} with returned numbers not extended is " + (f"seen: {seen}" if seen else "not seen"))
@@ -258,8 +264,8 @@ def main():
             say(good, f"{name} with a count one too large is " + (f"seen: {seen}" if seen else "not seen"))
         swaps = list(pool.map(swap, exchanges(head)))
     unseen = [name for name, seen in swaps if seen is None]
-    say(swaps and not unseen, f"armv7-linux with two parameters of one type exchanged: {len(swaps) - len(unseen)} of {len(swaps)} are seen"
-        + (f", not {'; '.join(unseen)}" if unseen else ""))
+    say(swaps and not unseen, f"armv7-linux with two parameters of one type exchanged: {len(swaps) - len(unseen)} of {len(swaps)} "
+        f"are seen" + (f", not {'; '.join(unseen)}" if unseen else ""))
     return int(failed)
 
 

@@ -176,7 +176,8 @@ static uint32_t draw_word(void)
     return state;
 }
 
-/* Below a number that is at most 65536. */
+/* Below a number that is at most 65536. Where an expression draws twice, the order is the kit's clang's, by which all drivers are
+ * compiled. */
 static uint32_t draw(uint32_t below)
 {
     return (draw_word() >> 16) * below >> 16;
@@ -243,7 +244,8 @@ enum { SIGNED = 1, DOUBLE = 2 }; /* a record's kind */
 #define WRITABLE 0x4000u
 
 /* Record k of the table. */
-static void put_record(uint32_t k, uint32_t number, uint32_t kind, uint32_t writable, uint32_t elements, uint32_t low, uint32_t high)
+static void put_record(uint32_t k, uint32_t number, uint32_t kind, uint32_t writable, uint32_t elements, uint32_t low,
+                       uint32_t high)
 {
     put_be(table + 12 * k, number << 17 | kind << 15 | writable | elements << 6);
     put_be(table + 12 * k + 4, low);
@@ -413,7 +415,9 @@ static void draw_task(void)
     drawn.task = (uint8_t)task;
     drawn.parameter = (uint16_t)(none ? 0 : draw(8) == 0 ? 2000 * draw(17) - draw(2) : draw(32000));
     drawn.index = (uint8_t)(none ? 0 : draw(3) == 0 ? draw(255) : draw(3));
-    drawn.value = none || task == 1 || task == 6 || task == 9 ? 0 : task == 3 || task == 8 || task == 11 || task == 13 ? draw_bits() : draw(65536);
+    drawn.value = task == 3 || task == 8 || task == 11 || task == 13 ? draw_bits() : draw(65536);
+    if (none || task == 1 || task == 6 || task == 9)
+        drawn.value = 0;
     if (draw(12) == 0) { /* mostly nothing that can be asked */
         drawn.task = (uint8_t)(draw(2) ? draw(18) : draw(256));
         drawn.parameter = (uint16_t)(draw(2) ? drawn.parameter : draw(65536));
@@ -530,7 +534,8 @@ static uss_answer serve(uss_setup s, uint32_t records, size_t count, size_t len)
 }
 
 /* A task to the slave, over one record. */
-static uss_answer run_task(uss_setup s, uint32_t task, uint32_t number, uint32_t index, uint32_t value, uint32_t records, size_t count)
+static uss_answer run_task(uss_setup s, uint32_t task, uint32_t number, uint32_t index, uint32_t value, uint32_t records,
+                           size_t count)
 {
     return serve(s, records, count, put_telegram(s, s.node, head_of(task, number, index), value, words(0x047F, 0x2000, 0, 0)));
 }
@@ -549,13 +554,11 @@ static void usual_table(void)
 
 static void known_telegrams(void)
 {
-    static const uint16_t numbers[5] = {1999, 2000, 4000, 16000, 31999}, ind[5] = {0x0000, 0x8000, 0x1000, 0x4000, 0xF000};
     uss_words command = words(0x047F, 0x2000, 0, 0);
     uss_built b;
     uss_answer a;
     uss_reply r;
     size_t i;
-    int holds = 1;
 
     check("K1", do_uss_bcc((const uint8_t *)"\x02\x07\x00\x04\x00\x21\x00\x1C", 8) == 0x3C
           && do_uss_bcc((const uint8_t *)"\x02\x05\x00\x00\x0C\x06", 6) == 0x0D);
@@ -567,7 +570,8 @@ static void known_telegrams(void)
         page[i] = k2[i];
     a = serve(usual, 1, 1, 16);
     r = do_uss_read_reply(usual, USS_READ, 1082, 0, 0, command, k3, 16);
-    check("K3", a.number == USS_REPLIED && a.length == 16 && equal(room, k3, 16) && is_words(a.control, 0x047F, 0x2000, 0x2222, 0x3333)
+    check("K3", a.number == USS_REPLIED && a.length == 16 && equal(room, k3, 16)
+          && is_words(a.control, 0x047F, 0x2000, 0x2222, 0x3333)
           && r.number == USS_DONE && r.id == USS_ID_WORD && r.value == 5000 && is_words(r.process, 0x0331, 0x2000, 0, 0));
     a = serve(usual, 0, 0, 16);
     r = do_uss_read_reply(usual, USS_READ, 1082, 0, 0, command, k4, 16);
@@ -578,6 +582,17 @@ static void known_telegrams(void)
     page[15] = 0x7A;
     page[1] = 0x0F;
     check("K6", serve(usual, 1, 1, 16).number == USS_COUNT);
+}
+
+static void known_numbers(void)
+{
+    static const uint16_t numbers[5] = {1999, 2000, 4000, 16000, 31999}, ind[5] = {0x0000, 0x8000, 0x1000, 0x4000, 0xF000};
+    uss_words command = words(0x047F, 0x2000, 0, 0);
+    uss_built b;
+    uss_answer a;
+    size_t i;
+    int holds = 1;
+
     for (i = 0; i < 5; i++) {
         b = do_uss_build_task(usual, USS_READ, numbers[i], 0, 0, command, room, 256);
         holds &= b.number == USS_DONE && room[5] == ind[i] >> 8 && room[6] == 0;
@@ -586,6 +601,15 @@ static void known_telegrams(void)
     put_record(0, 2000, 0, WRITABLE, 0, 0, 65000);
     a = serve(usual, 1, 1, put_telegram(usual, 3, USS_READ << 28 | 2000u << 16, 0, command));
     check("K8", a.number == USS_REPLIED && replied(USS_ID_ERROR, USS_NO_PARAMETER));
+}
+
+static void known_broadcasts(void)
+{
+    uss_words command = words(0x047F, 0x2000, 0, 0);
+    uss_built b;
+    uss_answer a;
+    size_t i;
+
     usual_table();
     a = serve(usual, 1, 1, put_telegram(usual, 0x20, 0x00060401, 0, words(0x0401, 0x2000, 0, 0)));
     check("K9", a.number == USS_TAKEN && a.length == 0 && is_words(a.control, 0x047F, 0x1111, 0x2222, 0x3333));
@@ -594,6 +618,13 @@ static void known_telegrams(void)
         page[i] = room[i];
     a = serve(usual, 1, 1, 16);
     check("K10", b.number == USS_DONE && a.number == USS_TAKEN && is_words(a.control, 0x047F, 0x1111, 0x2222, 0x3333));
+}
+
+static void known_values(void)
+{
+    size_t i;
+    int holds;
+
     put_record(0, 1082, SIGNED, WRITABLE, 0, 0xFF9C, 100);
     values[0] = 0;
     run_task(usual, USS_CHANGE_WORD, 1082, 0, 0xFF9C, 1, 1);
@@ -777,7 +808,8 @@ static void edges_of_tasks(void)
         for (shape = 0; shape < 4; shape++) /* no array, arrays of 1, 2 and 254; the last cannot be written */
             for (kind = 0; kind < 4; kind++) {
                 uint32_t elements = shape == 3 ? 254 : shape, places = shape == 0 ? 1 : elements;
-                put_record(0, 4100, kind, shape == 3 ? 0 : WRITABLE, elements, kind & SIGNED ? (kind & DOUBLE ? 0xFFFF0000u : 0xFF00) : 10, 0x7F00);
+                static const uint32_t least[4] = {10, 0xFF00, 10, 0xFFFF0000u};
+                put_record(0, 4100, kind, shape == 3 ? 0 : WRITABLE, elements, least[kind], 0x7F00);
                 for (i = 0; i < places; i++)
                     values[i] = 100 + i;
                 for (task = 0; task < 16; task++)
@@ -942,6 +974,9 @@ int driver(void)
 {
     uint32_t seed, i;
     known_telegrams();
+    known_numbers();
+    known_broadcasts();
+    known_values();
     answer_numbers();
     parameter_errors();
     edges_of_setups();

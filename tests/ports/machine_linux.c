@@ -12,7 +12,8 @@ static long call(long n, long a, long b, long c, long d, long e, long f)
 }
 #elif defined(__arm__)
 enum { WRITE = 4, MMAP = 192, MPROTECT = 125, EXIT = 1 };
-__asm__(".globl _start\n.thumb_func\n_start: mov r0, sp\n lsrs r0, r0, #3\n lsls r0, r0, #3\n mov sp, r0\n bl machine_main\n udf #0");
+__asm__(".globl _start\n.thumb_func\n_start: mov r0, sp\n lsrs r0, r0, #3\n lsls r0, r0, #3\n mov sp, r0\n"
+        " bl machine_main\n udf #0");
 static long call(long n, long a, long b, long c, long d, long e, long f)
 {
     register long r7 __asm__("r7") = n, r0 __asm__("r0") = a, r1 __asm__("r1") = b, r2 __asm__("r2") = c, r3 __asm__("r3") = d,
@@ -32,7 +33,8 @@ static long call(long n, long a, long b, long c, long d, long e, long f)
 }
 #elif defined(__riscv)
 enum { WRITE = 64, MMAP = 222, MPROTECT = 226, EXIT = 93 };
-__asm__(".globl _start\n_start:\n.option push\n.option norelax\n la gp, __global_pointer$\n.option pop\n andi sp, sp, -16\n call machine_main\n unimp");
+__asm__(".globl _start\n_start:\n.option push\n.option norelax\n la gp, __global_pointer$\n.option pop\n"
+        " andi sp, sp, -16\n call machine_main\n unimp");
 static long call(long n, long a, long b, long c, long d, long e, long f)
 {
     register long a7 __asm__("a7") = n, a0 __asm__("a0") = a, a1 __asm__("a1") = b, a2 __asm__("a2") = c, a3 __asm__("a3") = d,

@@ -32,8 +32,8 @@ def command(name, program):
     if name in USER:
         return [USER[name], program]
     if name in BOARDS:
-        board = BOARDS[name]
-        return ["qemu-system-arm", "-M", board[0], *board[1:], "-nographic", "-monitor", "none", "-serial", "none", "-semihosting", "-kernel", program]
+        quiet = ["-nographic", "-monitor", "none", "-serial", "none"]
+        return ["qemu-system-arm", "-M", *BOARDS[name], *quiet, "-semihosting", "-kernel", program]
     if name == "wasm32":
         return ["node", os.path.join(HERE, "wasm.js"), os.path.join(ROOT, "target", "ports", "wasm32", "uss.wasm"), program]
     raise SystemExit(f"tests/ports: nothing here runs {name}")
@@ -49,7 +49,8 @@ class Builder:
         self.kit = Kit()
         os.makedirs(TEST, exist_ok=True)
         with open(os.path.join(TEST, "calls.h"), "w") as file:
-            subprocess.run([sys.executable, "-B", os.path.join(HERE, "calls.py"), os.path.join(ROOT, "include", "uss.h")], check=True, stdout=file)
+            words = [sys.executable, "-B", os.path.join(HERE, "calls.py"), os.path.join(ROOT, "include", "uss.h")]
+            subprocess.run(words, check=True, stdout=file)
 
     def compile(self, target, source, out, more=()):
         words = self.kit.words(target, "-DTRAP_UNALIGNED" in more, [os.path.join(ROOT, "include"), TEST, HERE])
@@ -64,8 +65,8 @@ class Builder:
     def link(self, name, objects, library, out, script=os.path.join(HERE, "bare.ld")):
         """A driver with the library; of wasm32 it takes the calls from uss.wasm when it is run."""
         if name == "wasm32":
-            self.kit.must("wasm-ld", ["--no-entry", "--import-memory", "--import-undefined", "--no-stack-first", "--global-base=65536",
-                                      *objects, "-o", out], TEST)
+            words = ["--no-entry", "--import-memory", "--import-undefined", "--no-stack-first", "--global-base=65536"]
+            self.kit.must("wasm-ld", [*words, *objects, "-o", out], TEST)
         elif name in BOARDS:
             self.kit.must("ld.lld", ["-T", script, *objects, *library, "-o", out], TEST)
         else:

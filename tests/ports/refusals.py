@@ -51,7 +51,8 @@ def kit_without(own, folder, what):
     tools = os.path.join(folder, "on", os.path.basename(own.own), "toolchain", "bin")
     os.makedirs(tools)
     with open(os.path.join(tools, "clang"), "w") as file:
-        file.write(f'#!/bin/sh\ncase "$*" in *{what}*) echo "error: unable to create target" >&2; exit 1 ;; esac\nexec {own.clang} "$@"\n')
+        file.write(f'#!/bin/sh\ncase "$*" in *{what}*) echo "error: unable to create target" >&2; exit 1 ;; esac\n'
+                   f'exec {own.clang} "$@"\n')
     os.chmod(os.path.join(tools, "clang"), 0o755)
     return folder
 
@@ -70,6 +71,7 @@ def bad_inputs(own, room):
     yield "no kit", bad_input(["cortex-m3"], {**plain, "RATTLE_HOME": os.path.join(room, "none")})
 
 
+BCC = "uint8_t uss_bcc(const uint8_t *bytes, size_t len);"
 HEADERS = [  # what is replaced in uss.h, and by what
     ("a pointer without its count", "const uint8_t *bytes, size_t len", "const uint8_t *bytes"),
     ("a pointer to a struct", "const uint8_t *bytes, size_t len", "const uss_words *bytes, size_t len"),
@@ -83,17 +85,18 @@ HEADERS = [  # what is replaced in uss.h, and by what
     ("a macro with parameters", "#define USS_BUFFER 256", "#define USS_BUFFER(n) 256"),
     ("an include of something else", "#include <stdint.h>", "#include <stdio.h>"),
     ("a condition", "#define USS_BUFFER 256", "#if USS_SMALL"),
-    ("an inline function", "uint8_t uss_bcc(const uint8_t *bytes, size_t len);", "static uint8_t uss_bcc(const uint8_t *bytes, size_t len) { return 0; }"),
-    ("a call that is not in the library", "uint8_t uss_bcc(", "uint8_t uss_sum(const uint8_t *bytes, size_t len);\nuint8_t uss_bcc("),
-    ("a call that is left out", "uint8_t uss_bcc(const uint8_t *bytes, size_t len);", ""),
-    ("a call that is declared twice", "uint8_t uss_bcc(const uint8_t *bytes, size_t len);", "uint8_t uss_bcc(const uint8_t *bytes, size_t len);\nuint8_t uss_bcc(const uint8_t *bytes, size_t len);"),
+    ("an inline function", BCC, "static " + BCC.replace(";", " { return 0; }")),
+    ("a call that is not in the library", BCC, BCC + "\n" + BCC.replace("uss_bcc", "uss_sum")),
+    ("a call that is left out", BCC, ""),
+    ("a call that is declared twice", BCC, BCC + "\n" + BCC),
     ("two parameters of one type exchanged", "uint16_t mask1, uint16_t mask2", "uint16_t mask2, uint16_t mask1"),
-    ("a parameter of another width", "uint16_t parameter, uint8_t index, uint32_t value,\n                         uss_words process, uint8_t *out", "uint32_t parameter, uint8_t index, uint32_t value,\n                         uss_words process, uint8_t *out"),
+    ("a parameter of another width", "uint16_t mask1, uint16_t mask2", "uint32_t mask1, uint16_t mask2"),
     ("a slice that is written and const here", "uint8_t *reply, size_t reply_len", "const uint8_t *reply, size_t reply_len"),
     ("another width returned", "uint8_t uss_bcc(", "uint16_t uss_bcc("),
     ("a struct with a field more", "uint8_t node, pkw, pzd;", "uint8_t node, pkw, pzd, more;"),
     ("two fields exchanged", "uint8_t node, pkw, pzd;", "uint8_t node, pzd, pkw;"),
-    ("two fields of two widths exchanged", "uint32_t number, length;\n    uss_words control;", "uss_words control;\n    uint32_t number, length;"),
+    ("two fields of two widths exchanged", "uint32_t number, length;\n    uss_words control;",
+     "uss_words control;\n    uint32_t number, length;"),
     ("another struct returned", "uss_built uss_build_mirror(", "uss_words uss_build_mirror("),
 ]
 
@@ -165,7 +168,8 @@ def main():
     for group, cases in groups.items():
         bad = [f"{name}: {why}" for name, why in cases if why is not None]
         failed |= bool(bad)
-        print(f"FAILED: ports/build must refuse: {'; '.join(bad)}" if bad else f"passed: ports/build refuses {len(cases)} of {len(cases)} {group}")
+        print(f"FAILED: ports/build must refuse: {'; '.join(bad)}" if bad
+              else f"passed: ports/build refuses {len(cases)} of {len(cases)} {group}")
     return failed
 
 
