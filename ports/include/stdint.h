@@ -1,0 +1,11 @@
+/* What uss.h and bench/ need of the C compiler's own stdint.h, for a compiler that comes without one. */
+#ifndef PORT_STDINT_H
+#define PORT_STDINT_H
+typedef __UINT8_TYPE__ uint8_t;
+typedef __UINT16_TYPE__ uint16_t;
+typedef __UINT32_TYPE__ uint32_t;
+typedef __UINT64_TYPE__ uint64_t;
+typedef __INT32_TYPE__ int32_t;
+typedef __INT64_TYPE__ int64_t;
+typedef __UINTPTR_TYPE__ uintptr_t;
+#endif
