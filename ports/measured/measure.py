@@ -187,7 +187,9 @@ class Measure:
         first, after = mark.value & ~1, (mark.value & ~1) + mark.size
         log = out(f"{name}-{who}.log")
         kept = f"{section.address:#x}+{section.size:#x}"
-        names = self.stream(name, program, "-singlestep", "-d", "exec,nochain", "-D", log, "-dfilter", kept)
+        version = int(re.search(r"version (\d+)", said(["qemu-system-arm", "--version"]))[1])
+        single = ["-singlestep"] if version < 8 else ["-accel", "tcg,one-insn-per-tb=on"]
+        names = self.stream(name, program, *single, "-d", "exec,nochain", "-D", log, "-dfilter", kept)
         counts, between = [], False
         with open(log) as lines:
             for line in lines:

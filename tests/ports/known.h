@@ -1,0 +1,215 @@
+/* A part of driver.c: the known telegrams of document 01, each answer number, each parameter error. */
+
+/* ---- known telegrams: K1 to K12 of document 01 */
+
+static const uint8_t k2[16] = {0x02, 0x0E, 0x03, 0x14, 0x3A, 0, 0, 0, 0, 0, 0, 0x04, 0x7F, 0x20, 0, 0x7A};
+static const uint8_t k3[16] = {0x02, 0x0E, 0x03, 0x14, 0x3A, 0, 0, 0, 0, 0x13, 0x88, 0x03, 0x31, 0x20, 0, 0xA8};
+static const uint8_t k4[16] = {0x02, 0x0E, 0x03, 0x74, 0x3A, 0, 0, 0, 0, 0, 0, 0x03, 0x31, 0x20, 0, 0x53};
+static const uss_setup usual = {3, 4, 2};
+static const uss_words held = {0x047E, 0x1111, 0x2222, 0x3333};
+static const uss_words status = {0x0331, 0x2000, 0, 0};
+
+static int equal(const uint8_t *a, const uint8_t *b, size_t len)
+{
+    size_t i;
+    for (i = 0; i < len; i++)
+        if (a[i] != b[i])
+            return 0;
+    return 1;
+}
+
+static int is_words(uss_words a, uint32_t w1, uint32_t w2, uint32_t w3, uint32_t w4)
+{
+    return a.w1 == w1 && a.w2 == w2 && a.w3 == w3 && a.w4 == w4;
+}
+
+/* The slave on `page`, over the first `records` records of the table. */
+static uss_answer serve(uss_setup s, uint32_t records, size_t count, size_t len)
+{
+    return do_uss_slave(s, table, 12 * records, values, count, held, status, page, len, room, 256);
+}
+
+/* A task to the slave, over one record. */
+static uss_answer run_task(uss_setup s, uint32_t task, uint32_t number, uint32_t index, uint32_t value, uint32_t records,
+                           size_t count)
+{
+    return serve(s, records, count, put_telegram(s, s.node, head_of(task, number, index), value, words(0x047F, 0x2000, 0, 0)));
+}
+
+/* Reply ID, and value or error number, in the room. */
+static int replied(uint32_t id, uint32_t value)
+{
+    return room[3] >> 4 == id && get_be(room + 7) == value;
+}
+
+static void usual_table(void)
+{
+    put_record(0, 1082, 0, WRITABLE, 0, 0, 65000);
+    values[0] = 5000;
+}
+
+static void known_telegrams(void)
+{
+    uss_words command = words(0x047F, 0x2000, 0, 0);
+    uss_built b;
+    uss_answer a;
+    uss_reply r;
+    size_t i;
+
+    check("K1", do_uss_bcc((const uint8_t *)"\x02\x07\x00\x04\x00\x21\x00\x1C", 8) == 0x3C
+          && do_uss_bcc((const uint8_t *)"\x02\x05\x00\x00\x0C\x06", 6) == 0x0D);
+    fill_room(0xEE);
+    b = do_uss_build_task(usual, USS_READ, 1082, 0, 0, command, room, 256);
+    check("K2", b.number == USS_DONE && b.length == 16 && equal(room, k2, 16) && room[16] == 0xEE);
+    usual_table();
+    for (i = 0; i < 16; i++)
+        page[i] = k2[i];
+    a = serve(usual, 1, 1, 16);
+    r = do_uss_read_reply(usual, USS_READ, 1082, 0, 0, command, k3, 16);
+    check("K3", a.number == USS_REPLIED && a.length == 16 && equal(room, k3, 16)
+          && is_words(a.control, 0x047F, 0x2000, 0x2222, 0x3333)
+          && r.number == USS_DONE && r.id == USS_ID_WORD && r.value == 5000 && is_words(r.process, 0x0331, 0x2000, 0, 0));
+    a = serve(usual, 0, 0, 16);
+    r = do_uss_read_reply(usual, USS_READ, 1082, 0, 0, command, k4, 16);
+    check("K4", a.number == USS_REPLIED && equal(room, k4, 16) && r.number == USS_DONE && r.id == USS_ID_ERROR && r.value == 0);
+    page[15] = 0x7B;
+    a = serve(usual, 1, 1, 16);
+    check("K5", a.number == USS_CHECK && a.length == 0 && is_words(a.control, 0x047E, 0x1111, 0x2222, 0x3333));
+    page[15] = 0x7A;
+    page[1] = 0x0F;
+    check("K6", serve(usual, 1, 1, 16).number == USS_COUNT);
+}
+
+static void known_numbers(void)
+{
+    static const uint16_t numbers[5] = {1999, 2000, 4000, 16000, 31999}, ind[5] = {0x0000, 0x8000, 0x1000, 0x4000, 0xF000};
+    uss_words command = words(0x047F, 0x2000, 0, 0);
+    uss_built b;
+    uss_answer a;
+    size_t i;
+    int holds = 1;
+
+    for (i = 0; i < 5; i++) {
+        b = do_uss_build_task(usual, USS_READ, numbers[i], 0, 0, command, room, 256);
+        holds &= b.number == USS_DONE && room[5] == ind[i] >> 8 && room[6] == 0;
+    }
+    check("K7", holds);
+    put_record(0, 2000, 0, WRITABLE, 0, 0, 65000);
+    a = serve(usual, 1, 1, put_telegram(usual, 3, USS_READ << 28 | 2000u << 16, 0, command));
+    check("K8", a.number == USS_REPLIED && replied(USS_ID_ERROR, USS_NO_PARAMETER));
+}
+
+static void known_broadcasts(void)
+{
+    uss_words command = words(0x047F, 0x2000, 0, 0);
+    uss_built b;
+    uss_answer a;
+    size_t i;
+
+    usual_table();
+    a = serve(usual, 1, 1, put_telegram(usual, 0x20, 0x00060401, 0, words(0x0401, 0x2000, 0, 0)));
+    check("K9", a.number == USS_TAKEN && a.length == 0 && is_words(a.control, 0x047F, 0x1111, 0x2222, 0x3333));
+    b = do_uss_build_broadcast(usual, 2, 0xFFFF, 0, command, room, 256);
+    for (i = 0; i < 16; i++)
+        page[i] = room[i];
+    a = serve(usual, 1, 1, 16);
+    check("K10", b.number == USS_DONE && a.number == USS_TAKEN && is_words(a.control, 0x047F, 0x1111, 0x2222, 0x3333));
+}
+
+static void known_values(void)
+{
+    size_t i;
+    int holds;
+
+    put_record(0, 1082, SIGNED, WRITABLE, 0, 0xFF9C, 100);
+    values[0] = 0;
+    run_task(usual, USS_CHANGE_WORD, 1082, 0, 0xFF9C, 1, 1);
+    holds = replied(USS_ID_WORD, 0xFF9C) && values[0] == 0xFF9C;
+    run_task(usual, USS_CHANGE_WORD, 1082, 0, 0xFF9B, 1, 1);
+    check("K11", holds && replied(USS_ID_ERROR, USS_OUTSIDE_LIMITS) && values[0] == 0xFF9C);
+    usual_table();
+    run_task(usual, USS_READ_ELEMENT, 1082, 1, 0, 1, 1);
+    holds = replied(USS_ID_ELEMENT_WORD, 5000);
+    run_task(usual, USS_READ_ELEMENT, 1082, 2, 0, 1, 1);
+    holds &= replied(USS_ID_ERROR, USS_NO_ARRAY);
+    put_record(0, 1082, 0, WRITABLE, 2, 0, 65000);
+    values[1] = 6000;
+    run_task(usual, USS_READ_ELEMENT, 1082, 1, 0, 1, 2);
+    holds &= replied(USS_ID_ELEMENT_WORD, 6000);
+    run_task(usual, USS_READ_ELEMENT, 1082, 2, 0, 1, 2);
+    check("K12", holds && replied(USS_ID_ERROR, USS_NO_ELEMENT));
+    for (i = 0; i < 256; i++)
+        page[i] = (uint8_t)(7 * i);
+    seal(page, 256, 0x43);
+    holds = serve(usual, 1, 2, 256).number == USS_MIRRORED;
+    page[1] = 2;
+    holds &= serve(usual, 1, 2, 256).number == USS_LGE;
+    page[1] = 255;
+    check("LGE 2, 254, 255", holds && serve(usual, 1, 2, 256).number == USS_LGE);
+}
+
+/* ---- each answer number, each parameter error */
+
+static void answer_numbers(void)
+{
+    uss_words none = words(0, 0, 0, 0), command = words(0x047F, 0x2000, 0, 0);
+    size_t len = put_telegram(usual, 3, head_of(USS_READ, 1082, 0), 0, command);
+
+    usual_table();
+    SEEN(USS_REPLIED, serve(usual, 1, 1, len).number);
+    SEEN(USS_BAD_SETUP, serve(setup_of(32, 4, 2), 1, 1, len).number);
+    SEEN(USS_BAD_TABLE, do_uss_slave(usual, table, 11, values, 1, held, status, page, len, room, 256).number);
+    SEEN(USS_BAD_VALUES, serve(usual, 1, 0, len).number);
+    SEEN(USS_SHORT_REPLY, do_uss_slave(usual, table, 12, values, 1, held, status, page, len, room, 255).number);
+    SEEN(USS_SHORT, serve(usual, 1, 1, 4).number);
+    SEEN(USS_COUNT, serve(usual, 1, 1, len - 1).number);
+    SEEN(USS_OTHER_NODE, serve(setup_of(4, 4, 2), 1, 1, len).number);
+    SEEN(USS_OTHER_LENGTH, serve(setup_of(3, 4, 1), 1, 1, len).number);
+    page[15] ^= 1;
+    SEEN(USS_CHECK, serve(usual, 1, 1, len).number);
+    page[0] = 3;
+    SEEN(USS_START, serve(usual, 1, 1, len).number);
+    page[0] = 2;
+    page[1] = 2;
+    SEEN(USS_LGE, serve(usual, 1, 1, len).number);
+    seal(page, len, 0x83);
+    SEEN(USS_ADDRESS, serve(usual, 1, 1, len).number);
+    seal(page, len, 0x43);
+    SEEN(USS_MIRRORED, serve(usual, 1, 1, len).number);
+    seal(page, len, 0x20);
+    SEEN(USS_VOID_BROADCAST, serve(usual, 1, 1, len).number);
+    len = put_telegram(usual, 0x20, 0x00020400, 0, command);
+    SEEN(USS_TAKEN, serve(usual, 1, 1, len).number);
+    SEEN(USS_UNFIT_SETUP, do_uss_build_task(setup_of(3, 5, 2), 1, 1, 0, 0, none, room, 256).number);
+    SEEN(USS_NOT_ASKABLE, do_uss_build_task(usual, 4, 1, 0, 0, none, room, 256).number);
+    SEEN(USS_SHORT_OUT, do_uss_build_task(usual, 1, 1, 0, 0, none, room, 255).number);
+    SEEN(USS_NOT_THE_REPLY, do_uss_read_reply(usual, USS_READ, 1083, 0, 0, command, k3, 16).number);
+    check("a mirror of no bytes", do_uss_build_mirror(usual, k2, 0, room, 256).number == USS_NOT_ASKABLE);
+}
+
+static void parameter_errors(void)
+{
+    uss_setup three = setup_of(3, 3, 2);
+    put_record(0, 10, 0, WRITABLE, 0, 5, 100);
+    put_record(1, 20, DOUBLE, WRITABLE, 3, 5, 100000);
+    put_record(2, 30, 0, 0, 0, 5, 100);
+    values[0] = values[1] = values[2] = values[3] = values[4] = 50;
+    run_task(usual, USS_READ, 11, 0, 0, 3, 5);
+    check("USS_NO_PARAMETER", replied(USS_ID_ERROR, USS_NO_PARAMETER));
+    run_task(usual, USS_CHANGE_WORD, 30, 0, 60, 3, 5);
+    check("USS_NOT_WRITABLE", replied(USS_ID_ERROR, USS_NOT_WRITABLE) && values[4] == 50);
+    run_task(usual, USS_CHANGE_WORD, 10, 0, 101, 3, 5);
+    check("USS_OUTSIDE_LIMITS", replied(USS_ID_ERROR, USS_OUTSIDE_LIMITS));
+    run_task(usual, USS_READ_ELEMENT, 20, 3, 0, 3, 5);
+    check("USS_NO_ELEMENT", replied(USS_ID_ERROR, USS_NO_ELEMENT));
+    run_task(usual, USS_READ_ELEMENT, 10, 2, 0, 3, 5);
+    check("USS_NO_ARRAY", replied(USS_ID_ERROR, USS_NO_ARRAY));
+    run_task(usual, USS_CHANGE_WORD, 20, 0, 60, 3, 5);
+    check("USS_OTHER_WIDTH", replied(USS_ID_ERROR, USS_OTHER_WIDTH));
+    run_task(three, USS_READ, 20, 0, 0, 3, 5);
+    check("USS_NEEDS_FOUR", room[3] >> 4 == USS_ID_ERROR && room[8] == USS_NEEDS_FOUR);
+    run_task(usual, 15, 10, 0, 0, 3, 5);
+    check("USS_NO_SUCH_TASK", replied(USS_ID_ERROR, USS_NO_SUCH_TASK));
+    run_task(usual, USS_CHANGE_ELEMENT_DOUBLE, 20, 2, 70000, 3, 5);
+    check("an element is changed", replied(USS_ID_ELEMENT_DOUBLE, 70000) && values[3] == 70000 && values[2] == 50);
+}
