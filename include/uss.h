@@ -12,8 +12,9 @@
  * what is written (values, reply, out) does not overlap anything else that is lent to the same call. A count of 0 may come
  * with any pointer, NULL too.
  *
- * Structs go by value. Their layout is that of the C compiler for x86-64: no field is packed, sizes are 3, 8, 16, 8 and 20
- * bytes in the order below.
+ * Structs go by value. Their layout is that of the chip's own C compiler (docs/CHIPS.md has the chips): no field is packed,
+ * and sizes are 3, 8, 16, 8 and 20 bytes in the order below on each of them. On a 32-bit chip size_t has 32 bits, and a count
+ * no more. Static asserts of each size and offset are compiled for each target.
  */
 #ifndef USS_H
 #define USS_H
