@@ -26,14 +26,14 @@ def load(archive):
 def walk(name, code):
     """the deepest point of the function itself, and its callees with the depth at the call (the return address included)"""
     place = {c[0]: i for i, c in enumerate(code)}
-    deepest, calls, seen, todo, tables = 0, set(), {}, [(0, 0, None)], set()
+    deepest, calls, seen, waiting, tables = 0, set(), {}, [(0, 0, None)], set()
     while True:
-        if not todo:
+        if not waiting:
             rest = [i for i in range(len(code)) if i not in seen and not re.match(r"nop|xchg +%ax,%ax|cs nop|data16|int3", code[i][1])]
             if not rest or not tables: break
             if len(tables) > 1: sys.exit("%s: jump tables at two depths" % name)
-            todo.append((rest[0], min(tables), None))
-        i, depth, frame = todo.pop()
+            waiting.append((rest[0], min(tables), None))
+        i, depth, frame = waiting.pop()
         while i < len(code):
             if i in seen:
                 if seen[i] != (depth, frame): sys.exit("%s: two depths at %x" % (name, code[i][0]))
@@ -70,7 +70,7 @@ def walk(name, code):
                     to = place[int(m.group(1), 16)]
                     if op == "jmp":
                         i = to; continue
-                    todo.append((to, depth, frame))
+                    waiting.append((to, depth, frame))
             i += 1
     return deepest, calls
 
