@@ -20,8 +20,8 @@ use Rattle.rows.proofs.RangeLaws.{between}
 use Rattle.words.specs.Words.{byteAt, Bytes}
 use Rattle.bcc.specs.Bcc.{xorAll}
 use Rattle.frame.specs.Frame.{frameOf, isSound}
-use Rattle.frame.specs.Address.{addressOf, decodedOf}
-use Rattle.frame.specs.declared.Decoded.{Decoded}
+use Rattle.address.specs.Address.{addressOf, decodedOf}
+use Rattle.address.specs.declared.Decoded.{Decoded}
 use Rattle.claims_damage.specs.Damage.{Passes, damaged, Damage, flips, Unseen, Hit, OneByte, Order, Burst}
 use Rattle.claims_damage.specs.Examples.{sent, twice, wrongByte, eightBits, firstByte, examples, passing, unseenRead}
 

@@ -7,8 +7,8 @@
 use Prim.Native.Nat.{ℕ}
 use mathlib.Core.Bool.{Bool, true, false, cond}
 use mathlib.Core.List.{List, [], _∷_}
-use Rattle.frame.specs.declared.Decoded.{Decoded}
-use Rattle.frame.specs.declared.Decoded.the-variants.{Normal}
+use Rattle.address.specs.declared.Decoded.{Decoded}
+use Rattle.address.specs.declared.Decoded.the-variants.{Normal}
 
 abbrev pub sent : List ℕ
 sent = 0x02 ∷ 0x04 ∷ 0x03 ∷ 0x04 ∷ 0x7F ∷ 0x7E ∷ []

@@ -3,7 +3,7 @@ use mathlib.Core.Path.{_≡_, refl}
 use mathlib.Core.List.{map}
 use Rattle.bcc.specs.Bcc.{xorAll}
 use Rattle.frame.specs.Frame.{frameOf}
-use Rattle.frame.specs.Address.{addressOf}
+use Rattle.address.specs.Address.{addressOf}
 use Rattle.setup.specs.SetupRules.{setupOk}
 use Rattle.entry.specs.Fields.{entryOf, countOf}
 use Rattle.entry.specs.Limits.{signedOf, numberOf, atMost, fitsIn, isWithin, entryOk}
@@ -14,7 +14,7 @@ use Rattle.area.specs.Net.{netOf}
 use Rattle.area.specs.Read.{valueAt, areaAt, processAt}
 use Rattle.task.specs.Task.{tasks, taskOf}
 use Rattle.page.specs.Page.{pageOf, nibbleOf}
-use Rattle.task.specs.Verdict.{verdictOf, elementOf}
+use Rattle.verdict.specs.Verdict.{verdictOf, elementOf}
 use Rattle.deed.specs.Deed.{deedOn}
 use Rattle.broadcast.specs.Broadcast.{isVoid, mergeOf, controlAfter}
 use Rattle.control.specs.Control.{controlTaken, commandAt}

@@ -14,8 +14,8 @@ use Rattle.slave.specs.Slave.{Outcome, sentBy, callOf}
 use Rattle.request.specs.declared.Request.{Request}
 use Rattle.master.specs.Build.{taskArea, builtOf}
 use Rattle.claims_known.specs.Telegrams.{setup, twoWords, status, request1082, table1082, task1082, value1082, error1082}
-use Rattle.answers.specs.SlaveNumbers.{answerNumber}
-use Rattle.answers.specs.BuildNumbers.{builtNumber}
+use Rattle.slave_answers.specs.SlaveNumbers.{answerNumber}
+use Rattle.build_answers.specs.BuildNumbers.{builtNumber}
 
 -- what the definitions give, and what the document says
 abbrev pub Case : Type 0

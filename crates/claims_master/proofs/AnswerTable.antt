@@ -11,9 +11,9 @@ use Rattle.rows.proofs.RowsLaws.{first-chosen, chosen-first, first-read}
 use Rattle.setup.specs.declared.Setup.{Setup}
 use Rattle.request.specs.declared.Request.{Request}
 use Rattle.request.specs.Request.{expressible}
-use Rattle.answers.specs.declared.BuildFault.{BuildFault}
-use Rattle.answers.specs.declared.BuildAnswer.the-variants.{Done, Refused}
-use Rattle.answers.specs.BuildNumbers.{builtNumber}
+use Rattle.build_answers.specs.declared.BuildFault.{BuildFault}
+use Rattle.build_answers.specs.declared.BuildAnswer.the-variants.{Done, Refused}
+use Rattle.build_answers.specs.BuildNumbers.{builtNumber}
 use Rattle.master.specs.Build.{telegramFor, admitRows, admitted, builtOf}
 use Rattle.master.proofs.BuildLaws.{outcome-answer}
 use Rattle.claims_master.specs.AnswerTable.{buildRows}

@@ -14,10 +14,10 @@ use Rattle.words.specs.declared.Words.{Words}
 use Rattle.setup.specs.declared.Setup.{Setup}
 use Rattle.setup.specs.SetupRules.{setupOk}
 use Rattle.setup.proofs.SetupLaws.{Configured, ok-configured, Wide, area-sized, area-wide}
-use Rattle.frame.specs.Address.{decodedOf, kindOf}
-use Rattle.frame.specs.declared.Address.{Address}
-use Rattle.frame.specs.declared.Decoded.the-variants.{Broadcast as BroadcastTelegram}
-use Rattle.frame.proofs.AddressLaws.{to-all}
+use Rattle.address.specs.Address.{decodedOf, kindOf}
+use Rattle.address.specs.declared.Address.{Address}
+use Rattle.address.specs.declared.Decoded.the-variants.{Broadcast as BroadcastTelegram}
+use Rattle.address.proofs.AddressLaws.{to-all}
 use Rattle.area.specs.declared.Area.{Area}
 use Rattle.area.specs.Net.{fixedWords}
 use Rattle.area.specs.Read.{Worded, firstWords}
@@ -33,7 +33,7 @@ use Rattle.control.specs.Control.{firstWord, processIn, commandAt, voidIn}
 use Rattle.request.specs.declared.Request.the-variants.{Broadcast}
 use Rattle.request.specs.Request.{unusedZero, commandOf, expressible}
 use Rattle.slave.specs.Slave.{Call, receiving, netIn, Outcome}
-use Rattle.answers.specs.declared.Answer.the-variants.{Taken}
+use Rattle.slave_answers.specs.declared.Answer.the-variants.{Taken}
 use Rattle.slave.proofs.CaseLaws.{executed, broadcast-taken}
 use Rattle.master.specs.Build.{commandArea, commandCount, netFor, telegramFor}
 use Rattle.master.proofs.BuildLaws.{command-counted}

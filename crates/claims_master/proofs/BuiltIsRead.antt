@@ -7,7 +7,7 @@ use lib.ListN.{take}
 use Rattle.request.specs.declared.Request.{Request}
 use Rattle.request.specs.declared.Request.the-variants.{Task, Mirror, Broadcast}
 use Rattle.slave.specs.Slave.{Call}
-use Rattle.answers.specs.declared.BuildAnswer.the-variants.{Done}
+use Rattle.build_answers.specs.declared.BuildAnswer.the-variants.{Done}
 use Rattle.master.specs.Build.{telegramFor, builtOf}
 use Rattle.master.proofs.BuildLaws.{Buildable, done-buildable}
 use Rattle.claims_master.specs.Claims.{ReadAs, Typed}

@@ -17,7 +17,7 @@ use Rattle.request.specs.declared.Request.{Request}
 use Rattle.request.specs.declared.Request.the-variants.{Task, Mirror, Broadcast}
 use Rattle.request.specs.Request.{expressible}
 use Rattle.request.proofs.RequestLaws.{mirror-asked}
-use Rattle.answers.specs.declared.BuildAnswer.the-variants.{Done}
+use Rattle.build_answers.specs.declared.BuildAnswer.the-variants.{Done}
 use Rattle.master.specs.Build.{taskArea, commandArea, taskCount, commandCount, netFor, telegramFor, sent, builtOf}
 use Rattle.master.proofs.BuildLaws.{done-buildable, task-counted, command-counted}
 use Rattle.claims_master.specs.Claims.{SoundBuild}

@@ -4,10 +4,10 @@ use mathlib.Core.Bool.{true}
 use mathlib.Core.List.{List}
 use Prim.Native.Nat.{ℕ, _+_}
 use lib.ListN.{length}
-use Rattle.frame.specs.Address.{decodedOf, kindOf}
-use Rattle.frame.specs.declared.Address.{Address}
-use Rattle.frame.specs.declared.Decoded.the-variants.{Mirror as MirrorTelegram}
-use Rattle.frame.proofs.AddressLaws.{to-mirror}
+use Rattle.address.specs.Address.{decodedOf, kindOf}
+use Rattle.address.specs.declared.Address.{Address}
+use Rattle.address.specs.declared.Decoded.the-variants.{Mirror as MirrorTelegram}
+use Rattle.address.proofs.AddressLaws.{to-mirror}
 use Rattle.setup.specs.SetupRules.{setupOk}
 use Rattle.setup.proofs.SetupLaws.{ok-configured, node-own}
 use Rattle.net.specs.Telegram.{telegramOf}

@@ -6,10 +6,10 @@ use Prim.Native.Nat.{ℕ, _+_, _*_, _≤_}
 use native.Mathlib.Omega.{arith}
 use lib.ListN.{length}
 use Rattle.words.specs.declared.Words.{Words}
-use Rattle.frame.specs.Address.{decodedOf, kindOf}
-use Rattle.frame.specs.declared.Address.{Address}
-use Rattle.frame.specs.declared.Decoded.the-variants.{Normal}
-use Rattle.frame.proofs.AddressLaws.{to-one}
+use Rattle.address.specs.Address.{decodedOf, kindOf}
+use Rattle.address.specs.declared.Address.{Address}
+use Rattle.address.specs.declared.Decoded.the-variants.{Normal}
+use Rattle.address.proofs.AddressLaws.{to-one}
 use Rattle.setup.specs.declared.Setup.{Setup}
 use Rattle.setup.specs.SetupRules.{otherLength}
 use Rattle.setup.proofs.SetupLaws.{Configured, area-few, area-sized, area-some, Counted, words-own}

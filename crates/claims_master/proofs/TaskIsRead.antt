@@ -11,8 +11,8 @@ use Rattle.words.specs.declared.Words.{Words}
 use Rattle.setup.specs.declared.Setup.{Setup}
 use Rattle.setup.specs.SetupRules.{setupOk, areaCount, otherLength}
 use Rattle.setup.proofs.SetupLaws.{Configured, ok-configured, area-few, area-sized, area-words, Counted, node-own}
-use Rattle.frame.specs.Address.{decodedOf}
-use Rattle.frame.specs.declared.Decoded.the-variants.{Normal}
+use Rattle.address.specs.Address.{decodedOf}
+use Rattle.address.specs.declared.Decoded.the-variants.{Normal}
 use Rattle.area.specs.declared.Area.{Area}
 use Rattle.area.specs.Read.{emptyArea, areaAt, Worded, firstWords}
 use Rattle.area.proofs.WordLaws.{Headed}

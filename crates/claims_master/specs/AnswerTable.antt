@@ -7,7 +7,7 @@ use Rattle.rows.specs.Rows.{readRows}
 use Rattle.setup.specs.declared.Setup.{Setup}
 use Rattle.request.specs.declared.Request.{Request}
 use Rattle.request.specs.Request.{expressible}
-use Rattle.answers.specs.BuildNumbers.{builtNumber}
+use Rattle.build_answers.specs.BuildNumbers.{builtNumber}
 use Rattle.master.specs.Build.{admitRows}
 
 abbrev pub buildRows : Setup → Request → List ℕ → ℕ → List (Bool × ℕ)

@@ -16,9 +16,9 @@ use lib.ListN.{length, take, drop}
 use Rattle.rows.specs.Bits.{bit}
 use Rattle.words.specs.declared.Words.{Words}
 use Rattle.frame.specs.Frame.{frameOf, lastOf}
-use Rattle.frame.specs.Address.{decodedOf}
+use Rattle.address.specs.Address.{decodedOf}
 use Rattle.frame.specs.declared.FrameCheck.the-variants.{Sound}
-use Rattle.frame.specs.declared.Decoded.the-variants.{Normal, Mirror as MirrorTelegram, Broadcast as BroadcastTelegram}
+use Rattle.address.specs.declared.Decoded.the-variants.{Normal, Mirror as MirrorTelegram, Broadcast as BroadcastTelegram}
 use Rattle.setup.specs.declared.Setup.{Setup}
 use Rattle.setup.specs.SetupRules.{otherLength}
 use Rattle.area.specs.Read.{emptyArea, areaAt, firstWords, Worded}
@@ -30,7 +30,7 @@ use Rattle.request.specs.declared.Request.the-variants.{Task, Mirror, Broadcast
 use Rattle.request.specs.Request.{commandOf}
 use Rattle.slave.specs.Slave.{Call, netIn, countIn, taskAt, normalOutcome, mirrorOutcome, executeOf}
 use Rattle.slave.specs.Perform.{performOf}
-use Rattle.answers.specs.declared.Answer.the-variants.{Taken}
+use Rattle.slave_answers.specs.declared.Answer.the-variants.{Taken}
 use Rattle.master.specs.Build.{BuildOutcome, taskArea, telegramFor}
 
 -- of the outcome o of a build into the buffer out

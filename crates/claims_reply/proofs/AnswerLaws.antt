@@ -17,9 +17,9 @@ use Rattle.opening.specs.Answers.{openingOf}
 use Rattle.opening.proofs.FoundLaws.{InTable, found-in-table}
 use Rattle.area.specs.declared.Area.{Area}
 use Rattle.page.specs.Page.{fullNumber}
-use Rattle.task.specs.declared.ParameterError.the-variants.{NoParameter}
-use Rattle.task.specs.declared.Verdict.{Verdict}
-use Rattle.task.specs.declared.Verdict.the-variants.{Granted, Denied}
+use Rattle.verdict.specs.declared.ParameterError.the-variants.{NoParameter}
+use Rattle.verdict.specs.declared.Verdict.{Verdict}
+use Rattle.verdict.specs.declared.Verdict.the-variants.{Granted, Denied}
 use Rattle.task.proofs.TaskLaws.{task-row}
 use Rattle.deed.specs.Deed.{taskIn, elementIn, verdictIn, deedOn}
 use Rattle.deed.proofs.DeedLaws.{deed-denied, deed-granted, element-there}

@@ -12,19 +12,19 @@ use Rattle.rows.proofs.RowsLaws.{first-chosen, chosen-first, first-read}
 use Rattle.setup.specs.declared.Setup.{Setup}
 use Rattle.setup.specs.SetupRules.{setupOk, areaCount, otherNode, otherLength}
 use Rattle.frame.specs.Frame.{lastOf, frameRows, frameNumbers, frameOf}
-use Rattle.frame.specs.Address.{badAddress, broadcastBit, mirrorBit, addressRows, addressOf, kindOf, decodedFrom, adrOf}
-use Rattle.frame.specs.declared.Address.{Address}
-use Rattle.frame.specs.declared.Address.the-variants.{ToOne}
+use Rattle.address.specs.Address.{badAddress, broadcastBit, mirrorBit, addressRows, addressOf, kindOf, decodedFrom, adrOf}
+use Rattle.address.specs.declared.Address.{Address}
+use Rattle.address.specs.declared.Address.the-variants.{ToOne}
 use Rattle.frame.specs.declared.FrameCheck.{FrameCheck}
 use Rattle.frame.specs.declared.FrameCheck.the-variants.{Sound}
-use Rattle.frame.specs.declared.Decoded.{Decoded}
+use Rattle.address.specs.declared.Decoded.{Decoded}
 use Rattle.request.specs.declared.Request.{Request}
 use Rattle.request.specs.declared.Request.the-variants.{Task, Mirror, Broadcast}
 use Rattle.request.specs.Request.{taskAskable}
-use Rattle.answers.specs.declared.ReadAnswer.the-variants.{Read}
-use Rattle.answers.specs.declared.ReadFault.the-variants.{UnfitSetup, NotAsked, OtherNode, OtherLength, NotTheReply}
-use Rattle.answers.specs.declared.Content.the-variants.{Empty}
-use Rattle.answers.specs.ReadNumbers.{readNumber}
+use Rattle.read_answers.specs.declared.ReadAnswer.the-variants.{Read}
+use Rattle.read_answers.specs.declared.ReadFault.the-variants.{UnfitSetup, NotAsked, OtherNode, OtherLength, NotTheReply}
+use Rattle.read_answers.specs.declared.Content.the-variants.{Empty}
+use Rattle.read_answers.specs.ReadNumbers.{readNumber}
 use Rattle.content.specs.declared.Question.{Question}
 use Rattle.content.specs.Content.{badReply, replyContent}
 use Rattle.reply.specs.declared.Reading.{Reading}

@@ -7,7 +7,7 @@ use Prim.Native.Nat.{ℕ}
 use Rattle.setup.specs.SetupRules.{setupOk}
 use Rattle.bcc.specs.Bcc.{xorAll}
 use Rattle.frame.specs.Frame.{frameOf}
-use Rattle.frame.specs.Address.{addressOf}
+use Rattle.address.specs.Address.{addressOf}
 use Rattle.entry.specs.Fields.{entryOf, countOf}
 use Rattle.entry.specs.Limits.{numberOf, atMost, fitsIn, isWithin, entryOk}
 use Rattle.table.specs.Records.{entryAt, entriesFrom, entries, countsOf}

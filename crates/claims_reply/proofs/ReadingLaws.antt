@@ -8,7 +8,7 @@ use Rattle.words.specs.declared.Words.{Words}
 use Rattle.setup.specs.declared.Setup.{Setup}
 use Rattle.setup.specs.SetupRules.{areaCount}
 use Rattle.setup.proofs.SetupLaws.{Configured, area-sized, Counted, node-own}
-use Rattle.frame.specs.declared.Decoded.{Decoded}
+use Rattle.address.specs.declared.Decoded.{Decoded}
 use Rattle.area.specs.declared.Area.{Area}
 use Rattle.area.specs.Read.{Worded, firstWords}
 use Rattle.area.proofs.WordLaws.{Headed}
@@ -16,8 +16,8 @@ use Rattle.net.specs.Telegram.{telegramOf}
 use Rattle.net.proofs.ReadLaws.{process-back}
 use Rattle.slave.specs.Slave.{netIn}
 use Rattle.master.specs.Build.{netFor}
-use Rattle.answers.specs.declared.Content.the-variants.{Empty}
-use Rattle.answers.specs.declared.ReadAnswer.the-variants.{Read}
+use Rattle.read_answers.specs.declared.Content.the-variants.{Empty}
+use Rattle.read_answers.specs.declared.ReadAnswer.the-variants.{Read}
 use Rattle.content.specs.declared.Question.{Question}
 use Rattle.content.specs.Content.{replyContent}
 use Rattle.reply.specs.Reply.{zeroWords, readNormal, readDecoded, readTask}

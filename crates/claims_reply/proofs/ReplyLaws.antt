@@ -15,8 +15,8 @@ use Rattle.page.proofs.PageLaws.{nibble-small, ind-nibble, ind-index, base-back
 use Rattle.task.specs.Task.{tasks, taskOf, isDoubleId}
 use Rattle.deed.specs.Deed.{replyArea}
 use Rattle.master.specs.Build.{taskArea}
-use Rattle.answers.specs.declared.Content.the-variants.{Value, Failed}
-use Rattle.answers.specs.ReadNumbers.{contentId, contentValue}
+use Rattle.read_answers.specs.declared.Content.the-variants.{Value, Failed}
+use Rattle.read_answers.specs.ReadNumbers.{contentId, contentValue}
 use Rattle.content.specs.declared.Question.{Question}
 use Rattle.content.specs.Content.{knownId, allZero, badRows, badReply, replyContent}
 

@@ -12,7 +12,7 @@ use Rattle.request.specs.declared.Request.{Request}
 use Rattle.request.specs.declared.Request.the-variants.{Task}
 use Rattle.slave.specs.Slave.{Call, netIn, openingAt, replyAt, normalOutcome, callOf}
 use Rattle.slave.proofs.CaseLaws.{called}
-use Rattle.answers.specs.declared.BuildAnswer.the-variants.{Done}
+use Rattle.build_answers.specs.declared.BuildAnswer.the-variants.{Done}
 use Rattle.master.specs.Build.{builtOf}
 use Rattle.master.proofs.BuildLaws.{done-buildable}
 use Rattle.reply.specs.Reply.{readOf}

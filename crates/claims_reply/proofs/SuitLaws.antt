@@ -16,9 +16,9 @@ use Rattle.task.specs.declared.Act.{Act}
 use Rattle.task.specs.declared.Act.the-variants.{Nothing, Read, Change, Count, Refuse}
 use Rattle.task.specs.declared.Width.{Width}
 use Rattle.task.specs.declared.Width.the-variants.{Either, Word, Double}
-use Rattle.task.specs.declared.ParameterError.{ParameterError}
+use Rattle.verdict.specs.declared.ParameterError.{ParameterError}
 use Rattle.task.specs.Task.{taskOf, readReply, isDoubleId, carried}
-use Rattle.task.specs.Verdict.{errorNumber, movesValue}
+use Rattle.verdict.specs.Verdict.{errorNumber, movesValue}
 use Rattle.task.proofs.TaskLaws.{IdOf, RowOf, read-id}
 use Rattle.deed.proofs.ReplyLaws.{MayReply, error-small, id-replies, count-replies, error-replies}
 use Rattle.deed.specs.Deed.{replyArea, errorArea, taskIn, elementIn, actDeed}

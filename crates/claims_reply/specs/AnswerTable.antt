@@ -9,7 +9,7 @@ use lib.Dec.{eqb}
 use Rattle.setup.specs.declared.Setup.{Setup}
 use Rattle.setup.specs.SetupRules.{setupOk, areaCount, otherNode, otherLength}
 use Rattle.frame.specs.Frame.{frameNumbers}
-use Rattle.frame.specs.Address.{adrOf, badAddress, broadcastBit, mirrorBit}
+use Rattle.address.specs.Address.{adrOf, badAddress, broadcastBit, mirrorBit}
 use Rattle.request.specs.declared.Request.{Request}
 use Rattle.request.specs.declared.Request.the-variants.{Task, Mirror, Broadcast}
 use Rattle.request.specs.Request.{taskAskable}

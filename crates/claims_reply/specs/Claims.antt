@@ -9,8 +9,8 @@ use Rattle.area.specs.declared.Area.{Area}
 use Rattle.area.specs.Read.{firstWords}
 use Rattle.request.specs.declared.Request.{Request}
 use Rattle.slave.specs.Slave.{Call, netIn, Outcome, sentBy, taskAt}
-use Rattle.answers.specs.declared.Answer.the-variants.{Replied}
-use Rattle.answers.specs.ReadNumbers.{readNumber, readId, readValue}
+use Rattle.slave_answers.specs.declared.Answer.the-variants.{Replied}
+use Rattle.read_answers.specs.ReadNumbers.{readNumber, readId, readValue}
 use Rattle.reply.specs.declared.Reading.{Reading}
 use Rattle.reply.specs.Reply.{zeroWords, readOf}
 

@@ -4,8 +4,8 @@
 use mathlib.Core.List.{List, [], _∷_}
 use Prim.Native.Nat.{ℕ}
 use Rattle.opening.specs.Lent.{Lent}
-use Rattle.answers.specs.declared.Content.the-variants.{Value, Failed}
-use Rattle.answers.specs.declared.ReadAnswer.the-variants.{Read}
+use Rattle.read_answers.specs.declared.Content.the-variants.{Value, Failed}
+use Rattle.read_answers.specs.declared.ReadAnswer.the-variants.{Read}
 use Rattle.reply.specs.declared.Reading.{Reading}
 use Rattle.claims_known.specs.Telegrams.{setup, status, table1082, value1082, error1082}
 

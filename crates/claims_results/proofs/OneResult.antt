@@ -10,16 +10,14 @@ use Rattle.store.proofs.has_room.Reads as store-has-room
 use Rattle.store.proofs.put.Reads as store-put
 use Rattle.bcc.proofs.bcc.Reads as bcc-bcc
 use Rattle.frame.proofs.check.Reads as frame-check
-use Rattle.frame.proofs.read_address.Reads as frame-read-address
-use Rattle.frame.proofs.decode.Reads as frame-decode
-use Rattle.frame.proofs.number_frame_fault.Reads as frame-number-frame-fault
-use Rattle.frame.proofs.number_fault.Reads as frame-number-fault
-use Rattle.answers.proofs.number_opening.Reads as answers-number-opening
-use Rattle.answers.proofs.number_answer.Reads as answers-number-answer
-use Rattle.answers.proofs.number_built.Reads as answers-number-built
-use Rattle.answers.proofs.number_read_fault.Reads as answers-number-read-fault
-use Rattle.answers.proofs.content_id.Reads as answers-content-id
-use Rattle.answers.proofs.content_value.Reads as answers-content-value
+use Rattle.address.proofs.decode.Reads as address-decode
+use Rattle.address.proofs.number_fault.Reads as address-number-fault
+use Rattle.slave_answers.proofs.number_opening.Reads as slave-answers-number-opening
+use Rattle.slave_answers.proofs.number_answer.Reads as slave-answers-number-answer
+use Rattle.build_answers.proofs.number_built.Reads as build-answers-number-built
+use Rattle.read_answers.proofs.number_read_fault.Reads as read-answers-number-read-fault
+use Rattle.read_answers.proofs.content_id.Reads as read-answers-content-id
+use Rattle.read_answers.proofs.content_value.Reads as read-answers-content-value
 use Rattle.setup.proofs.setup_ok.Reads as setup-setup-ok
 use Rattle.setup.proofs.area_count.Reads as setup-area-count
 use Rattle.setup.proofs.is_other_length.Reads as setup-is-other-length
@@ -40,9 +38,9 @@ use Rattle.page.proofs.page_of.Reads as page-page-of
 use Rattle.page.proofs.nibble_of.Reads as page-nibble-of
 use Rattle.page.proofs.full_number.Reads as page-full-number
 use Rattle.task.proofs.task_of.Reads as task-task-of
-use Rattle.task.proofs.number_error.Reads as task-number-error
-use Rattle.task.proofs.judge.Reads as task-judge
-use Rattle.task.proofs.pick_element.Reads as task-pick-element
+use Rattle.verdict.proofs.number_error.Reads as verdict-number-error
+use Rattle.verdict.proofs.judge.Reads as verdict-judge
+use Rattle.verdict.proofs.pick_element.Reads as verdict-pick-element
 use Rattle.deed.proofs.deny.Reads as deed-deny
 use Rattle.deed.proofs.plan.Reads as deed-plan
 use Rattle.broadcast.proofs.is_void.Reads as broadcast-is-void
@@ -56,7 +54,6 @@ use Rattle.request.proofs.can_express.Reads as request-can-express
 use Rattle.master.proofs.build_task.Reads as master-build-task
 use Rattle.master.proofs.build_mirror.Reads as master-build-mirror
 use Rattle.master.proofs.build_broadcast.Reads as master-build-broadcast
-use Rattle.master.proofs.build.Reads as master-build
 use Rattle.content.proofs.is_bad.Reads as content-is-bad
 use Rattle.content.proofs.read_content.Reads as content-read-content
 use Rattle.reply.proofs.read.Reads as reply-read
@@ -96,35 +93,29 @@ bcc-bcc-one κs a r r′ s s′ = equal-through
 pub frame-check-one : OneResult frame-check.Post
 frame-check-one κs a r r′ s s′ = equal-through
 
-pub frame-read-address-one : OneResult frame-read-address.Post
-frame-read-address-one κs a r r′ s s′ = equal-through
+pub address-decode-one : OneResult address-decode.Post
+address-decode-one κs a r r′ s s′ = equal-through
 
-pub frame-decode-one : OneResult frame-decode.Post
-frame-decode-one κs a r r′ s s′ = equal-through
+pub address-number-fault-one : OneResult address-number-fault.Post
+address-number-fault-one κs a r r′ s s′ = equal-through
 
-pub frame-number-frame-fault-one : OneResult frame-number-frame-fault.Post
-frame-number-frame-fault-one κs a r r′ s s′ = equal-through
+pub slave-answers-number-opening-one : OneResult slave-answers-number-opening.Post
+slave-answers-number-opening-one κs a r r′ s s′ = equal-through
 
-pub frame-number-fault-one : OneResult frame-number-fault.Post
-frame-number-fault-one κs a r r′ s s′ = equal-through
+pub slave-answers-number-answer-one : OneResult slave-answers-number-answer.Post
+slave-answers-number-answer-one κs a r r′ s s′ = equal-through
 
-pub answers-number-opening-one : OneResult answers-number-opening.Post
-answers-number-opening-one κs a r r′ s s′ = equal-through
+pub build-answers-number-built-one : OneResult build-answers-number-built.Post
+build-answers-number-built-one κs a r r′ s s′ = equal-through
 
-pub answers-number-answer-one : OneResult answers-number-answer.Post
-answers-number-answer-one κs a r r′ s s′ = equal-through
+pub read-answers-number-read-fault-one : OneResult read-answers-number-read-fault.Post
+read-answers-number-read-fault-one κs a r r′ s s′ = equal-through
 
-pub answers-number-built-one : OneResult answers-number-built.Post
-answers-number-built-one κs a r r′ s s′ = equal-through
+pub read-answers-content-id-one : OneResult read-answers-content-id.Post
+read-answers-content-id-one κs a r r′ s s′ = equal-through
 
-pub answers-number-read-fault-one : OneResult answers-number-read-fault.Post
-answers-number-read-fault-one κs a r r′ s s′ = equal-through
-
-pub answers-content-id-one : OneResult answers-content-id.Post
-answers-content-id-one κs a r r′ s s′ = equal-through
-
-pub answers-content-value-one : OneResult answers-content-value.Post
-answers-content-value-one κs a r r′ s s′ = equal-through
+pub read-answers-content-value-one : OneResult read-answers-content-value.Post
+read-answers-content-value-one κs a r r′ s s′ = equal-through
 
 pub setup-setup-ok-one : OneResult setup-setup-ok.Post
 setup-setup-ok-one κs a r r′ s s′ = equal-through
@@ -180,14 +171,14 @@ page-full-number-one κs a r r′ s s′ = equal-through
 pub task-task-of-one : OneResult task-task-of.Post
 task-task-of-one κs a r r′ s s′ = equal-through
 
-pub task-number-error-one : OneResult task-number-error.Post
-task-number-error-one κs a r r′ s s′ = equal-through
+pub verdict-number-error-one : OneResult verdict-number-error.Post
+verdict-number-error-one κs a r r′ s s′ = equal-through
 
-pub task-judge-one : OneResult task-judge.Post
-task-judge-one κs a r r′ s s′ = equal-through
+pub verdict-judge-one : OneResult verdict-judge.Post
+verdict-judge-one κs a r r′ s s′ = equal-through
 
-pub task-pick-element-one : OneResult task-pick-element.Post
-task-pick-element-one κs a r r′ s s′ = equal-through
+pub verdict-pick-element-one : OneResult verdict-pick-element.Post
+verdict-pick-element-one κs a r r′ s s′ = equal-through
 
 pub deed-deny-one : OneResult deed-deny.Post
 deed-deny-one κs a r r′ s s′ = equal-through
@@ -277,12 +268,6 @@ master-build-broadcast-one κs a r r′ s s′ p p′ = equal-through (p .answer
 
 pub master-build-broadcast-out : OneExit master-build-broadcast.Post (λ κs s. now (s .1 .1 .1 .1 .1 .0))
 master-build-broadcast-out κs a r r′ s s′ p p′ = equal-through (p .bytes-are) (p′ .bytes-are)
-
-pub master-build-one : OneResult master-build.Post
-master-build-one κs a r r′ s s′ p p′ = equal-through (p .answers) (p′ .answers)
-
-pub master-build-out : OneExit master-build.Post (λ κs s. now (s .1 .1 .1 .0))
-master-build-out κs a r r′ s s′ p p′ = equal-through (p .bytes-are) (p′ .bytes-are)
 
 pub host-slave-serve-one : OneResult host-slave-serve.Post
 host-slave-serve-one κs a r r′ s s′ p p′ = equal-through (p .answers) (p′ .answers)

@@ -14,19 +14,19 @@ use Rattle.rows.specs.Rows.{firstOf, readRows, Chosen}
 use Rattle.rows.proofs.RowsLaws.{first-all, first-chosen, chosen-first, first-read}
 use Rattle.setup.specs.SetupRules.{otherNode, otherLength}
 use Rattle.frame.specs.Frame.{lastOf, frameRows, frameNumbers, frameOf}
-use Rattle.frame.specs.Address.{broadcastBit, mirrorBit, topBit, addressRows, addressOf, kindOf, decodedFrom, adrOf}
-use Rattle.frame.specs.declared.Address.{Address}
-use Rattle.frame.specs.declared.Address.the-variants.{ToOne}
+use Rattle.address.specs.Address.{broadcastBit, mirrorBit, topBit, addressRows, addressOf, kindOf, decodedFrom, adrOf}
+use Rattle.address.specs.declared.Address.{Address}
+use Rattle.address.specs.declared.Address.the-variants.{ToOne}
 use Rattle.frame.specs.declared.FrameCheck.{FrameCheck}
 use Rattle.frame.specs.declared.FrameCheck.the-variants.{Sound}
-use Rattle.frame.specs.declared.Decoded.{Decoded}
+use Rattle.address.specs.declared.Decoded.{Decoded}
 use Rattle.frame.proofs.FrameLaws.{Framed}
-use Rattle.frame.proofs.DecodedLaws.{framed-decoded}
+use Rattle.address.proofs.DecodedLaws.{framed-decoded}
 use Rattle.opening.specs.Answers.{openingRows, openingOf}
 use Rattle.opening.specs.declared.Opening.{Opening}
 use Rattle.opening.specs.declared.Opening.the-variants.{Passed}
-use Rattle.answers.specs.declared.Refusal.the-variants.{OtherNode, OtherLength, VoidBroadcast}
-use Rattle.answers.specs.SlaveNumbers.{answerNumber}
+use Rattle.slave_answers.specs.declared.Refusal.the-variants.{OtherNode, OtherLength, VoidBroadcast}
+use Rattle.slave_answers.specs.SlaveNumbers.{answerNumber}
 use Rattle.control.specs.Control.{voidIn}
 use Rattle.slave.specs.Slave.{Call, Outcome, lentBy, openingAt, netIn, refusedOf, normalOutcome, normalCase, mirrorOutcome, mirrorCase, takenOutcome, broadcastCase, executeDecoded, executeOf, callOpened, callOf}
 use Rattle.slave.proofs.CaseLaws.{executed, called}

@@ -8,18 +8,18 @@ use native.Mathlib.Omega.{arith}
 use lib.Dec.{lit<}
 use Rattle.setup.specs.SetupRules.{otherNode, otherLength}
 use Rattle.setup.proofs.SetupLaws.{own-node}
-use Rattle.frame.specs.Address.{decodedOf}
+use Rattle.address.specs.Address.{decodedOf}
 use Rattle.frame.specs.Frame.{lastOf}
-use Rattle.frame.specs.declared.Decoded.{Decoded}
-use Rattle.frame.specs.declared.Decoded.the-variants.{Normal, Mirror, Broadcast, Unread}
-use Rattle.frame.proofs.DecodedLaws.{normal-bounds}
-use Rattle.frame.proofs.NumberLaws.{fault-between}
+use Rattle.address.specs.declared.Decoded.{Decoded}
+use Rattle.address.specs.declared.Decoded.the-variants.{Normal, Mirror, Broadcast, Unread}
+use Rattle.address.proofs.DecodedLaws.{normal-bounds}
+use Rattle.address.proofs.NumberLaws.{fault-between}
 use Rattle.opening.specs.declared.Opening.{Opening}
 use Rattle.opening.specs.declared.Opening.the-variants.{Passed, Closed}
-use Rattle.answers.specs.declared.OpeningFault.{OpeningFault}
-use Rattle.answers.specs.declared.Refusal.{Refusal}
-use Rattle.answers.specs.declared.Refusal.the-variants.{AtOpening, InTelegram, OtherNode, OtherLength, VoidBroadcast}
-use Rattle.answers.specs.SlaveNumbers.{refusalNumber}
+use Rattle.slave_answers.specs.declared.OpeningFault.{OpeningFault}
+use Rattle.slave_answers.specs.declared.Refusal.{Refusal}
+use Rattle.slave_answers.specs.declared.Refusal.the-variants.{AtOpening, InTelegram, OtherNode, OtherLength, VoidBroadcast}
+use Rattle.slave_answers.specs.SlaveNumbers.{refusalNumber}
 use Rattle.control.specs.Control.{voidIn}
 use Rattle.slave.specs.Slave.{Call, Outcome, openingAt, netIn, refusedOf, normalOutcome, normalCase, mirrorOutcome, mirrorCase, takenOutcome, broadcastCase, executeDecoded, callOf}
 use Rattle.slave.proofs.CaseLaws.{executed, called, normal-other-node, normal-other-length, normal-replied, mirror-other-node, mirror-sent, broadcast-other-length, broadcast-void, broadcast-taken}

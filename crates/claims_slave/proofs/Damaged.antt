@@ -12,10 +12,10 @@ use mathlib.Core.List.{List}
 use native.Mathlib.Omega.{arith}
 use Rattle.words.specs.Words.{byteAt}
 use Rattle.frame.specs.Frame.{frameOf, isSound}
-use Rattle.frame.specs.Address.{decodedFrom, decodedOf}
-use Rattle.frame.specs.declared.Fault.the-variants.{InFrame}
+use Rattle.address.specs.Address.{decodedFrom, decodedOf}
+use Rattle.address.specs.declared.Fault.the-variants.{InFrame}
 use Rattle.frame.specs.declared.FrameCheck.{FrameCheck}
-use Rattle.frame.specs.declared.Decoded.the-variants.{Unread}
+use Rattle.address.specs.declared.Decoded.the-variants.{Unread}
 use Rattle.frame.proofs.FrameLaws.{sound-framed}
 use Rattle.opening.specs.declared.Opening.the-variants.{Passed}
 use Rattle.claims_damage.specs.Damage.{Refuses, damaged, Damage, flips, Unseen, Hit, OneByte, Order, Burst}

@@ -16,8 +16,8 @@ use Rattle.setup.proofs.SetupLaws.{Configured, ok-configured, area-few, area-si
 use Rattle.table.specs.Records.{entryAt, firstPlace}
 use Rattle.table.specs.declared.Found.{Found}
 use Rattle.table.specs.declared.Found.the-variants.{At, Nothing}
-use Rattle.frame.specs.declared.Decoded.the-variants.{Mirror}
-use Rattle.frame.proofs.DecodedLaws.{telegram-framed}
+use Rattle.address.specs.declared.Decoded.the-variants.{Mirror}
+use Rattle.address.proofs.DecodedLaws.{telegram-framed}
 use Rattle.opening.specs.Lent.{Lent, lending}
 use Rattle.opening.specs.Answers.{openingOf}
 use Rattle.opening.specs.declared.Opening.the-variants.{Passed}
@@ -30,8 +30,8 @@ use Rattle.net.proofs.SealLaws.{written-long}
 use Rattle.page.specs.Page.{fullNumber}
 use Rattle.task.specs.declared.Act.{Act}
 use Rattle.task.specs.declared.Act.the-variants.{Nothing as Idle, Read, Change, Count, Refuse}
-use Rattle.task.specs.declared.Verdict.{Verdict}
-use Rattle.task.specs.declared.Verdict.the-variants.{Granted, Denied}
+use Rattle.verdict.specs.declared.Verdict.{Verdict}
+use Rattle.verdict.specs.declared.Verdict.the-variants.{Granted, Denied}
 use Rattle.deed.specs.Deed.{taskIn, valueIn, elementIn, verdictIn, actDeed, deedOn}
 use Rattle.deed.proofs.DeedLaws.{element-there, change-inside}
 use Rattle.slave.specs.declared.Plan.{Plan}

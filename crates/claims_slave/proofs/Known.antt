@@ -11,14 +11,14 @@ use Rattle.entry.specs.Limits.{signedOf, numberOf, atMost, fitsIn, isWithin, en
 use Rattle.table.specs.Records.{entryAt, entriesFrom, entries, findFrom, countsOf}
 use Rattle.bcc.specs.Bcc.{xorAll}
 use Rattle.frame.specs.Frame.{frameOf}
-use Rattle.frame.specs.Address.{addressOf}
+use Rattle.address.specs.Address.{addressOf}
 use Rattle.opening.specs.Rules.{risingFrom, eachOk, runOk, runsOk}
 use Rattle.opening.specs.Answers.{openingOf}
 use Rattle.area.specs.Net.{netOf}
 use Rattle.area.specs.Read.{valueAt, areaAt, processAt}
 use Rattle.task.specs.Task.{tasks, taskOf}
 use Rattle.page.specs.Page.{pageOf}
-use Rattle.task.specs.Verdict.{verdictOf, elementOf}
+use Rattle.verdict.specs.Verdict.{verdictOf, elementOf}
 use Rattle.broadcast.specs.Broadcast.{isVoid, mergeOf, controlAfter}
 use Rattle.deed.specs.Deed.{deedOn}
 use Rattle.control.specs.Control.{controlTaken, commandAt}
@@ -26,7 +26,7 @@ use Rattle.slave.specs.Perform.{foundOf, planIn, planAt}
 use Rattle.slave.specs.Slave.{replyOf, normalCase, mirrorCase, broadcastCase, executeOf, callOf}
 use Rattle.claims_known.specs.Telegrams.{setup, twoWords, process, status, task1082, value1082}
 use Rattle.claims_slave.specs.Sequence.{State, Event, Seen, Run, runOf}
-use Rattle.answers.specs.SlaveNumbers.{answerNumber}
+use Rattle.slave_answers.specs.SlaveNumbers.{answerNumber}
 
 -- parameter 1082, a writable word of 0 to 10000
 abbrev pub table : List ℕ

@@ -16,12 +16,12 @@ use Rattle.words.specs.Words.{Bytes}
 use Rattle.setup.proofs.SetupLaws.{ok-configured, area-few, own-words}
 use Rattle.table.specs.Records.{entryAt, firstPlace}
 use Rattle.frame.specs.Frame.{lastOf, frameOf}
-use Rattle.frame.specs.Address.{kindOf, decodedOf}
-use Rattle.frame.specs.declared.Address.{Address}
+use Rattle.address.specs.Address.{kindOf, decodedOf}
+use Rattle.address.specs.declared.Address.{Address}
 use Rattle.frame.specs.declared.FrameCheck.the-variants.{Sound}
-use Rattle.frame.specs.declared.Decoded.the-variants.{Normal}
-use Rattle.frame.proofs.AddressLaws.{to-one}
-use Rattle.frame.proofs.DecodedLaws.{telegram-framed}
+use Rattle.address.specs.declared.Decoded.the-variants.{Normal}
+use Rattle.address.proofs.AddressLaws.{to-one}
+use Rattle.address.proofs.DecodedLaws.{telegram-framed}
 use Rattle.opening.specs.Lent.{stored}
 use Rattle.opening.proofs.AnswersLaws.{passed-opened}
 use Rattle.area.specs.Net.{fixedWords, processWords, netOf}
@@ -33,11 +33,11 @@ use Rattle.page.specs.Page.{fullNumber}
 use Rattle.task.specs.declared.Act.{Act}
 use Rattle.task.specs.declared.Act.the-variants.{Change}
 use Rattle.task.specs.Task.{tasks, taskOf}
-use Rattle.task.specs.Verdict.{changesAct}
+use Rattle.verdict.specs.Verdict.{changesAct}
 use Rattle.deed.specs.Deed.{valueIn, actDeed}
 use Rattle.deed.proofs.DeedLaws.{deed-granted, element-there}
 use Rattle.control.specs.Control.{firstWord, processIn, controlTaken, commandAt, commandIn}
-use Rattle.answers.specs.declared.Answer.the-variants.{Replied, Mirrored, Taken}
+use Rattle.slave_answers.specs.declared.Answer.the-variants.{Replied, Mirrored, Taken}
 use Rattle.slave.specs.Perform.{planIn, planAt, doneBy}
 use Rattle.slave.specs.Slave.{countIn, Call, lentBy, netIn, taskAt, replyOf, replyAt, callOf}
 use Rattle.slave.proofs.PerformLaws.{found-fits, named-found}

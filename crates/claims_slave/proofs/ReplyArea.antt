@@ -11,7 +11,7 @@ use Rattle.area.specs.Net.{fixedWords, processWords, netOf}
 use Rattle.net.specs.Telegram.{telegramOf}
 use Rattle.net.proofs.SealLaws.{written-first}
 use Rattle.deed.proofs.ReplyLaws.{MayReply}
-use Rattle.answers.specs.declared.Answer.the-variants.{Replied}
+use Rattle.slave_answers.specs.declared.Answer.the-variants.{Replied}
 use Rattle.slave.specs.Slave.{countIn, Call, lentBy, netIn, taskAt, replyOf, replyAt, sentBy, callOf}
 use Rattle.claims_slave.specs.ReplyArea.{idOf, replyIds, OneOf, ZeroBits, NotDouble, FourSent, ThreeSent}
 use Rattle.claims_slave.proofs.WhenAnswered.{replied-call, replied-exactly}

@@ -17,7 +17,7 @@ use Rattle.entry.proofs.LimitsLaws.{ok-ruled, within-fits}
 use Rattle.table.specs.Records.{entryAt, firstPlace}
 use Rattle.table.specs.declared.Found.{Found}
 use Rattle.table.specs.declared.Found.the-variants.{At, Nothing}
-use Rattle.task.specs.declared.ParameterError.the-variants.{NoParameter}
+use Rattle.verdict.specs.declared.ParameterError.the-variants.{NoParameter}
 use Rattle.deed.specs.declared.Deed.{Deed}
 use Rattle.deed.specs.declared.Deed.the-variants.{Reply, Fetch, Write}
 use Rattle.deed.specs.Deed.{elementIn, deedOn}

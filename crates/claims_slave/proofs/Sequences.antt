@@ -11,7 +11,7 @@ use lib.Dec.{lit<}
 use Rattle.rows.specs.Rows.{Each}
 use Rattle.rows.proofs.BoolLaws.{and-right}
 use Rattle.setup.specs.declared.Setup.{Setup}
-use Rattle.answers.specs.SlaveNumbers.{answerNumber}
+use Rattle.slave_answers.specs.SlaveNumbers.{answerNumber}
 use Rattle.claims_slave.specs.Outcomes.{isRefused}
 use Rattle.claims_slave.specs.Sequence.{State, Event, Run, Opens, asked, callAt, seenOf, stepOf, runOf, everyOne, onward, strike, kept}
 use Rattle.claims_slave.proofs.Cases.{call-cases}

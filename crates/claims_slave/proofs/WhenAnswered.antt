@@ -10,11 +10,11 @@ use native.Mathlib.Omega.{arith}
 use Rattle.setup.specs.SetupRules.{otherLength}
 use Rattle.setup.proofs.SetupLaws.{node-own}
 use Rattle.frame.specs.Frame.{lastOf}
-use Rattle.frame.specs.Address.{decodedOf}
-use Rattle.frame.specs.declared.Decoded.the-variants.{Normal, Mirror, Broadcast}
+use Rattle.address.specs.Address.{decodedOf}
+use Rattle.address.specs.declared.Decoded.the-variants.{Normal, Mirror, Broadcast}
 use Rattle.opening.specs.declared.Opening.the-variants.{Passed}
-use Rattle.answers.specs.declared.Answer.the-variants.{Replied, Mirrored, Taken}
-use Rattle.answers.specs.SlaveNumbers.{answerNumber}
+use Rattle.slave_answers.specs.declared.Answer.the-variants.{Replied, Mirrored, Taken}
+use Rattle.slave_answers.specs.SlaveNumbers.{answerNumber}
 use Rattle.control.specs.Control.{voidIn}
 use Rattle.slave.specs.Slave.{Call, Outcome, openingAt, netIn, normalOutcome, normalCase, mirrorOutcome, takenOutcome, callOf}
 use Rattle.slave.proofs.CaseLaws.{normal-replied, mirror-sent, broadcast-taken, executed, called}

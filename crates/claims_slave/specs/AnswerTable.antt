@@ -8,11 +8,11 @@ use mathlib.Core.List.{List, [], _∷_, _++_}
 use Rattle.rows.specs.Rows.{readRows}
 use Rattle.setup.specs.SetupRules.{otherNode, otherLength}
 use Rattle.frame.specs.Frame.{frameNumbers}
-use Rattle.frame.specs.Address.{adrOf, badAddress, broadcastBit, mirrorBit}
+use Rattle.address.specs.Address.{adrOf, badAddress, broadcastBit, mirrorBit}
 use Rattle.opening.specs.declared.Opening.{Opening}
 use Rattle.opening.specs.declared.Opening.the-variants.{Passed, Closed}
 use Rattle.opening.specs.Answers.{openingRows}
-use Rattle.answers.specs.SlaveNumbers.{openingNumber}
+use Rattle.slave_answers.specs.SlaveNumbers.{openingNumber}
 use Rattle.control.specs.Control.{voidIn}
 use Rattle.slave.specs.Slave.{Call, lentBy, netIn}
 

@@ -15,18 +15,18 @@ use mathlib.Core.Bool.{Bool, true, false}
 use mathlib.Core.List.{List}
 use lib.ListN.{length, drop}
 use Rattle.frame.specs.Frame.{lastOf, frameOf}
-use Rattle.frame.specs.Address.{decodedOf}
+use Rattle.address.specs.Address.{decodedOf}
 use Rattle.frame.specs.declared.FrameCheck.the-variants.{Sound}
-use Rattle.frame.specs.declared.Decoded.the-variants.{Normal}
-use Rattle.answers.specs.declared.Answer.{Answer}
-use Rattle.answers.specs.declared.Answer.the-variants.{Replied, Mirrored, Taken, Refused}
-use Rattle.answers.specs.SlaveNumbers.{answerNumber}
+use Rattle.address.specs.declared.Decoded.the-variants.{Normal}
+use Rattle.slave_answers.specs.declared.Answer.{Answer}
+use Rattle.slave_answers.specs.declared.Answer.the-variants.{Replied, Mirrored, Taken, Refused}
+use Rattle.slave_answers.specs.SlaveNumbers.{answerNumber}
 use Rattle.area.specs.declared.Area.{Area}
 use Rattle.area.specs.Read.{areaAt}
 use Rattle.table.specs.Records.{entryAt, firstPlace}
 use Rattle.table.specs.declared.Found.the-variants.{At}
 use Rattle.task.specs.declared.Act.the-variants.{Change}
-use Rattle.task.specs.declared.Verdict.the-variants.{Granted}
+use Rattle.verdict.specs.declared.Verdict.the-variants.{Granted}
 use Rattle.deed.specs.Deed.{taskIn, elementIn, verdictIn}
 use Rattle.slave.specs.Perform.{foundOf}
 use Rattle.slave.specs.Slave.{Call, Outcome, sentBy, countIn}

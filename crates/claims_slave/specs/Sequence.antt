@@ -17,7 +17,7 @@ use Rattle.setup.specs.declared.Setup.{Setup}
 use Rattle.opening.specs.Lent.{Memory}
 use Rattle.opening.specs.Answers.{openingOf}
 use Rattle.opening.specs.declared.Opening.the-variants.{Passed}
-use Rattle.answers.specs.declared.Answer.{Answer}
+use Rattle.slave_answers.specs.declared.Answer.{Answer}
 use Rattle.slave.specs.Slave.{Call, Outcome, sentBy, callOf}
 use Rattle.claims_slave.specs.Outcomes.{isRefused}
 

@@ -16,8 +16,8 @@ use Rattle.page.specs.Page.{baseOf, nibbleOf}
 use Rattle.task.specs.declared.Act.{Act}
 use Rattle.task.specs.declared.Act.the-variants.{Nothing, Read, Change, Count, Refuse}
 use Rattle.task.specs.Task.{taskOf, readReply, isDoubleId}
-use Rattle.answers.specs.declared.Content.{Content}
-use Rattle.answers.specs.declared.Content.the-variants.{Empty, Value, Failed, NoRight}
+use Rattle.read_answers.specs.declared.Content.{Content}
+use Rattle.read_answers.specs.declared.Content.the-variants.{Empty, Value, Failed, NoRight}
 use Rattle.content.specs.declared.Question.{Question}
 
 -- ---- 33

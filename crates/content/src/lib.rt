@@ -5,7 +5,7 @@ ghost use Prim.Native.Nat.{_≤_};
 ghost use lib.Dec.{eqb, ltb};
 ghost use Rattle.task.specs.Task.{isDoubleId};
 ghost use Rattle.content.specs.Content.{inRow, knownId, allZero, badReply, replyContent};
-use answers::Content;
+use read_answers::Content;
 use area::Area;
 use task::Act;
 

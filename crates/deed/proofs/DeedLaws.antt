@@ -9,12 +9,12 @@ use Rattle.entry.specs.Fields.{countOf}
 use Rattle.entry.specs.Limits.{isWithin}
 use Rattle.task.specs.declared.Act.{Act}
 use Rattle.task.specs.declared.Act.the-variants.{Nothing, Read, Change, Count, Refuse}
-use Rattle.task.specs.declared.ParameterError.{ParameterError}
-use Rattle.task.specs.declared.Verdict.{Verdict}
-use Rattle.task.specs.declared.Verdict.the-variants.{Granted, Denied}
+use Rattle.verdict.specs.declared.ParameterError.{ParameterError}
+use Rattle.verdict.specs.declared.Verdict.{Verdict}
+use Rattle.verdict.specs.declared.Verdict.the-variants.{Granted, Denied}
 use Rattle.task.specs.Task.{readReply}
 use Rattle.task.proofs.TaskLaws.{reply-small}
-use Rattle.task.proofs.VerdictLaws.{granted-element, granted-inside}
+use Rattle.verdict.proofs.VerdictLaws.{granted-element, granted-inside}
 use Rattle.deed.specs.declared.Deed.the-variants.{Reply}
 use Rattle.deed.specs.Deed.{errorArea, taskIn, indexIn, valueIn, elementIn, verdictIn, actDeed, deedOn, DeedFits}
 

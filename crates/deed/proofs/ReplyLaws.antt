@@ -18,14 +18,14 @@ use Rattle.task.specs.declared.Act.{Act}
 use Rattle.task.specs.declared.Act.the-variants.{Nothing, Read, Change, Count, Refuse}
 use Rattle.task.specs.declared.Width.{Width}
 use Rattle.task.specs.declared.Width.the-variants.{Either, Word, Double}
-use Rattle.task.specs.declared.ParameterError.{ParameterError}
-use Rattle.task.specs.declared.ParameterError.the-variants.{NoParameter, NotWritable, OutsideLimits, NoElement, NoArray, OtherWidth, NoRoom, NoTask}
-use Rattle.task.specs.declared.Verdict.{Verdict}
-use Rattle.task.specs.declared.Verdict.the-variants.{Granted, Denied}
+use Rattle.verdict.specs.declared.ParameterError.{ParameterError}
+use Rattle.verdict.specs.declared.ParameterError.the-variants.{NoParameter, NotWritable, OutsideLimits, NoElement, NoArray, OtherWidth, NoRoom, NoTask}
+use Rattle.verdict.specs.declared.Verdict.{Verdict}
+use Rattle.verdict.specs.declared.Verdict.the-variants.{Granted, Denied}
 use Rattle.task.specs.Task.{readReply, isDoubleId, carried}
-use Rattle.task.specs.Verdict.{errorNumber, refusesAct, changesAct, movesValue, differsWidth, lacksArray, lacksElement, verdictOf}
+use Rattle.verdict.specs.Verdict.{errorNumber, refusesAct, changesAct, movesValue, differsWidth, lacksArray, lacksElement, verdictOf}
 use Rattle.task.proofs.TaskLaws.{IdOf, RowOf, task-row, id-width, read-id}
-use Rattle.task.proofs.VerdictLaws.{granted-clear}
+use Rattle.verdict.proofs.VerdictLaws.{granted-clear}
 use Rattle.deed.specs.declared.Deed.{Deed}
 use Rattle.deed.specs.declared.Deed.the-variants.{Reply, Fetch, Write}
 use Rattle.deed.specs.Deed.{replyArea, errorArea, taskIn, indexIn, valueIn, elementIn, verdictIn, actDeed, deedOn}

@@ -9,9 +9,9 @@ ghost use Rattle.deed.specs.Deed.{replyArea, errorArea, taskIn, valueIn,
 use area::Area;
 use entry::Entry;
 use task::Act;
-use task::ParameterError;
+use verdict::ParameterError;
 use task::Task;
-use task::Verdict;
+use verdict::Verdict;
 use task::Width;
 
 // What is to be done: the reply's area as it stands, or with the element's value read into it, or with its value written to the element.
@@ -38,7 +38,7 @@ pub fn deny(area: Area, error: ParameterError) -> Deed
     ensures { λ r. ⌜ r ≡ Reply (errorArea area error) ⌝ }
 {
     Deed::Reply {
-        area: reply_area(area, 7, task::number_error(error) as u32),
+        area: reply_area(area, 7, verdict::number_error(error) as u32),
     }
 }
 
@@ -105,10 +105,10 @@ pub fn plan(n: u8, area: Area, e: Entry) -> Deed
     let width = task.width;
     let index = (area.ind % 256) as u8;
     let value = carry(width, area.value);
-    match task::judge(n, task, e, index, value) {
+    match verdict::judge(n, task, e, index, value) {
         Verdict::Denied(error) => deny(area, error),
         Verdict::Granted => {
-            let element = task::pick_element(task, e, index);
+            let element = verdict::pick_element(task, e, index);
             plan_act(task, area, e, element, value)
         }
     }

@@ -19,8 +19,8 @@ use Rattle.request.specs.declared.Request.{Request}
 use Rattle.request.specs.declared.Request.the-variants.{Task, Mirror, Broadcast}
 use Rattle.request.specs.Request.{expressible}
 use Rattle.request.proofs.RequestLaws.{mirror-asked}
-use Rattle.answers.specs.declared.BuildAnswer.{BuildAnswer}
-use Rattle.answers.specs.declared.BuildAnswer.the-variants.{Done, Refused}
+use Rattle.build_answers.specs.declared.BuildAnswer.{BuildAnswer}
+use Rattle.build_answers.specs.declared.BuildAnswer.the-variants.{Done, Refused}
 use Rattle.master.specs.declared.Built.{Built}
 use Rattle.master.specs.Build.{taskArea, commandArea, taskCount, commandCount, netFor, telegramFor, outcomeOf, admitted, Builds, builtOf}
 use Rattle.master.proofs.BuildLaws.{done-admitted, task-counted, command-counted}

@@ -4,7 +4,7 @@
 use mathlib.Core.Path.{_≡_}
 use mathlib.Core.List.{List}
 use Prim.Native.Nat.{ℕ}
-use Rattle.answers.specs.BuildNumbers.{builtNumber}
+use Rattle.build_answers.specs.BuildNumbers.{builtNumber}
 use Rattle.master.specs.declared.Built.{Built}
 use Rattle.master.specs.Build.{BuildOutcome}
 use Rattle.host_master.specs.declared.HostBuilt.{HostBuilt}

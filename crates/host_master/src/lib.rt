@@ -23,7 +23,7 @@ fn give_built(built: Built) -> HostBuilt
     let answer = built.answer;
     let length = built.length as u32;
     HostBuilt {
-        number: answers::number_built(answer),
+        number: build_answers::number_built(answer),
         length,
     }
 }

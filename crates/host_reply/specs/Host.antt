@@ -1,6 +1,6 @@
 -- What a reading returns to a host: the answer in the document's numbers.
 use Rattle.reply.specs.declared.Reading.{Reading}
-use Rattle.answers.specs.ReadNumbers.{readNumber, readId, readValue}
+use Rattle.read_answers.specs.ReadNumbers.{readNumber, readId, readValue}
 use Rattle.host_reply.specs.declared.HostReply.{HostReply}
 
 abbrev pub hostReply : Reading → HostReply

@@ -3,7 +3,7 @@ ghost use mathlib.Core.Path.{_≡_};
 ghost use Rattle.request.specs.declared.Request.the-variants.{Task};
 ghost use Rattle.reply.specs.Reply.{readOf};
 ghost use Rattle.host_reply.specs.Host.{hostReply};
-use answers::ReadAnswer;
+use read_answers::ReadAnswer;
 use reply::Reading;
 use request::Request;
 use setup::Setup;
@@ -26,12 +26,12 @@ fn give_reply(reading: Reading) -> HostReply
     match answer {
         ReadAnswer::Read(content) => HostReply {
             number: 0,
-            id: answers::content_id(content),
-            value: answers::content_value(content),
+            id: read_answers::content_id(content),
+            value: read_answers::content_value(content),
             process,
         },
         ReadAnswer::Unread(fault) => HostReply {
-            number: answers::number_read_fault(fault),
+            number: read_answers::number_read_fault(fault),
             id: 0,
             value: 0,
             process,

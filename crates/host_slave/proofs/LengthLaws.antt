@@ -10,10 +10,10 @@ use Rattle.words.specs.declared.Words.{Words}
 use Rattle.setup.specs.declared.Setup.{Setup}
 use Rattle.setup.specs.SetupRules.{areaCount, otherNode, otherLength}
 use Rattle.setup.proofs.SetupLaws.{Configured, ok-configured, own-words, area-sized}
-use Rattle.frame.specs.Address.{decodedOf}
-use Rattle.frame.specs.declared.Decoded.{Decoded}
-use Rattle.frame.specs.declared.Decoded.the-variants.{Normal, Mirror, Broadcast, Unread}
-use Rattle.frame.proofs.DecodedLaws.{telegram-framed, normal-bounds}
+use Rattle.address.specs.Address.{decodedOf}
+use Rattle.address.specs.declared.Decoded.{Decoded}
+use Rattle.address.specs.declared.Decoded.the-variants.{Normal, Mirror, Broadcast, Unread}
+use Rattle.address.proofs.DecodedLaws.{telegram-framed, normal-bounds}
 use Rattle.area.specs.declared.Area.{Area}
 use Rattle.area.specs.Net.{fixedWords, processWords}
 use Rattle.area.proofs.WordLaws.{length-fixed, length-process}

@@ -4,7 +4,7 @@
 use mathlib.Core.Path.{_≡_}
 use mathlib.Core.List.{List}
 use Prim.Native.Nat.{ℕ}
-use Rattle.answers.specs.SlaveNumbers.{answerNumber}
+use Rattle.slave_answers.specs.SlaveNumbers.{answerNumber}
 use Rattle.opening.specs.Lent.{Memory}
 use Rattle.slave.specs.declared.Served.{Served}
 use Rattle.slave.specs.Slave.{Outcome}

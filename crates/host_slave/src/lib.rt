@@ -30,7 +30,7 @@ pub fn serve(
     let length = served.length as u32;
     let next = served.control;
     HostAnswer {
-        number: answers::number_answer(answer),
+        number: slave_answers::number_answer(answer),
         length,
         control: next,
     }

@@ -6,7 +6,7 @@ use Prim.Native.String.{String}
 use Rattle.text.specs.Digits.{ascii, digits}
 use Rattle.bcc.specs.Bcc.{xorAll}
 use Rattle.frame.specs.Frame.{frameOf}
-use Rattle.frame.specs.Address.{addressOf}
+use Rattle.address.specs.Address.{addressOf}
 use Rattle.listing.specs.Listing.{listing}
 
 abbrev pub listings : List (List ℕ × String)

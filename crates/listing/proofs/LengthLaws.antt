@@ -15,14 +15,14 @@ use Rattle.store.specs.Placed.{putOut, joined}
 use Rattle.text.proofs.DigitsLaws.{length-digits}
 use Rattle.store.proofs.StoreLaws.{put-fits, put-not, put-front, put-length, put-within}
 use Rattle.frame.specs.Frame.{frameOf, lastOf}
-use Rattle.frame.specs.Address.{addressRows, addressOf, kindOf, decodedFrom, faultNumber}
+use Rattle.address.specs.Address.{addressRows, addressOf, kindOf, decodedFrom, faultNumber}
 use Rattle.frame.specs.declared.FrameCheck.{FrameCheck}
 use Rattle.frame.specs.declared.FrameCheck.the-variants.{Sound, Broken}
-use Rattle.frame.specs.declared.Address.{Address}
-use Rattle.frame.specs.declared.Address.the-variants.{ToOne, ToMirror, ToAll, ToNone}
-use Rattle.frame.specs.declared.Fault.{Fault}
-use Rattle.frame.proofs.NumberLaws.{fault-between}
-use Rattle.frame.specs.declared.Fault.the-variants.{InFrame, InAddress}
+use Rattle.address.specs.declared.Address.{Address}
+use Rattle.address.specs.declared.Address.the-variants.{ToOne, ToMirror, ToAll, ToNone}
+use Rattle.address.specs.declared.Fault.{Fault}
+use Rattle.address.proofs.NumberLaws.{fault-between}
+use Rattle.address.specs.declared.Fault.the-variants.{InFrame, InAddress}
 use Rattle.listing.specs.Listing.{goodPieces, refusedPieces, goodText, piecesOf, listing, listedOf}
 
 -- ---- exactly

@@ -6,9 +6,9 @@ use Prim.Native.Nat.{ℕ, _≤_}
 use lib.ListN.{length}
 use Rattle.store.specs.Placed.{putAll, joined}
 use Rattle.store.proofs.StoreLaws.{all-append}
-use Rattle.frame.specs.Address.{decodedOf}
-use Rattle.frame.specs.declared.Decoded.{Decoded}
-use Rattle.frame.proofs.DecodedLaws.{isTelegram, telegram-framed}
+use Rattle.address.specs.Address.{decodedOf}
+use Rattle.address.specs.declared.Decoded.{Decoded}
+use Rattle.address.proofs.DecodedLaws.{isTelegram, telegram-framed}
 use Rattle.listing.specs.Listing.{piecesOf, listing}
 
 -- `out` is l with the pieces xss written from a place on, and `at` is the place behind them

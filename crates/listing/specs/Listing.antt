@@ -10,9 +10,9 @@ use Rattle.words.specs.Words.{byteAt}
 use Rattle.text.specs.Digits.{ascii, digits}
 use Rattle.store.specs.Placed.{Placed, putOut, joined}
 use Rattle.frame.specs.Frame.{lastOf}
-use Rattle.frame.specs.Address.{decodedOf, faultNumber}
-use Rattle.frame.specs.declared.Decoded.{Decoded}
-use Rattle.frame.specs.declared.Decoded.the-variants.{Normal, Mirror, Broadcast, Unread}
+use Rattle.address.specs.Address.{decodedOf, faultNumber}
+use Rattle.address.specs.declared.Decoded.{Decoded}
+use Rattle.address.specs.declared.Decoded.the-variants.{Normal, Mirror, Broadcast, Unread}
 
 -- the first line
 abbrev pub header : List ℕ

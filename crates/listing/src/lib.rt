@@ -6,7 +6,7 @@ ghost use lib.ListN.{length};
 ghost use Rattle.text.specs.Digits.{ascii, digits};
 ghost use Rattle.store.specs.Placed.{putOut, putAll, joined};
 ghost use Rattle.listing.specs.Listing.{header, goodPieces, goodText, refusedPieces, listing, listedOf};
-use frame::Decoded;
+use address::Decoded;
 
 // Writes a label and a number behind it.
 fn write_field(out: &mut [u8], at: usize, label: &[u8], n: u32) -> usize
@@ -80,7 +80,7 @@ fn list_decoded(t: &[u8], out: &mut [u8]) -> usize
     ensures { λ r. ⌜ r ≡ putOut (now (out .entry)) 0 (listing (now (t .entry))) .place ⌝ }
     ensures { λ _. ⌜ now (out .exit) ≡ putOut (now (out .entry)) 0 (listing (now (t .entry))) .bytes ⌝ }
 {
-    match frame::decode(t) {
+    match address::decode(t) {
         Decoded::Normal {
             node,
             net_start,
@@ -90,7 +90,7 @@ fn list_decoded(t: &[u8], out: &mut [u8]) -> usize
         Decoded::Broadcast => list_good(t, t[2] % 32, b"broadcast", out),
         Decoded::Unread(fault) => list_refused(
             t.len() as u32,
-            frame::number_fault(fault) as u32,
+            address::number_fault(fault),
             out,
         ),
     }

@@ -19,10 +19,10 @@ use Rattle.net.specs.Normal.{normalOf, normalLength}
 use Rattle.net.proofs.NormalLaws.{normal-sent}
 use Rattle.request.specs.declared.Request.{Request}
 use Rattle.request.specs.Request.{expressible}
-use Rattle.answers.specs.declared.BuildFault.{BuildFault}
-use Rattle.answers.specs.declared.BuildFault.the-variants.{BadSetup, NotExpressible, ShortBuffer}
-use Rattle.answers.specs.declared.BuildAnswer.{BuildAnswer}
-use Rattle.answers.specs.declared.BuildAnswer.the-variants.{Done, Refused}
+use Rattle.build_answers.specs.declared.BuildFault.{BuildFault}
+use Rattle.build_answers.specs.declared.BuildFault.the-variants.{BadSetup, NotExpressible, ShortBuffer}
+use Rattle.build_answers.specs.declared.BuildAnswer.{BuildAnswer}
+use Rattle.build_answers.specs.declared.BuildAnswer.the-variants.{Done, Refused}
 use Rattle.master.specs.Build.{Builds, Sends, taskCount, commandCount, netFor, telegramFor, unbuilt, sent, outcomeOf, admitted, builtOf}
 
 abbrev isDone : BuildAnswer → Bool

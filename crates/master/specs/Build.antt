@@ -26,10 +26,10 @@ use Rattle.page.specs.Page.{nibbleOf}
 use Rattle.request.specs.declared.Request.{Request}
 use Rattle.request.specs.declared.Request.the-variants.{Task, Mirror, Broadcast}
 use Rattle.request.specs.Request.{expressible}
-use Rattle.answers.specs.declared.BuildFault.{BuildFault}
-use Rattle.answers.specs.declared.BuildFault.the-variants.{BadSetup, NotExpressible, ShortBuffer}
-use Rattle.answers.specs.declared.BuildAnswer.{BuildAnswer}
-use Rattle.answers.specs.declared.BuildAnswer.the-variants.{Done, Refused}
+use Rattle.build_answers.specs.declared.BuildFault.{BuildFault}
+use Rattle.build_answers.specs.declared.BuildFault.the-variants.{BadSetup, NotExpressible, ShortBuffer}
+use Rattle.build_answers.specs.declared.BuildAnswer.{BuildAnswer}
+use Rattle.build_answers.specs.declared.BuildAnswer.the-variants.{Done, Refused}
 use Rattle.master.specs.declared.Built.{Built}
 
 -- PKE is task ID and base, IND is page and index

@@ -8,8 +8,8 @@ ghost use Rattle.net.specs.Telegram.{telegramOf};
 ghost use Rattle.setup.specs.SetupRules.{setupOk};
 ghost use Rattle.request.specs.declared.Request.the-variants.{Task, Mirror, Broadcast};
 ghost use Rattle.master.specs.Build.{Sends, Builds, taskCount, commandCount, netFor, taskArea, commandArea, admitted, builtOf};
-use answers::BuildAnswer;
-use answers::BuildFault;
+use build_answers::BuildAnswer;
+use build_answers::BuildFault;
 use area::Area;
 use request::Request;
 use setup::Setup;
@@ -157,27 +157,5 @@ pub fn build_broadcast(
             Built { answer, length }
         }
         BuildAnswer::Refused(fault) => Built { answer, length: 0 },
-    }
-}
-
-// The build of a request's telegram; net are the net bytes of a mirror.
-pub fn build(setup: Setup, request: Request, net: &[u8], out: &mut [u8]) -> Built
-    ensures { λ r. ⌜ Builds (builtOf setup request (now (net .entry)) (now (out .entry))) r (now (out .exit)) ⌝ }
-{
-    match request {
-        Request::Task {
-            id,
-            number,
-            index,
-            value,
-            process,
-        } => build_task(setup, id, number, index, value, process, out),
-        Request::Mirror => build_mirror(setup, net, out),
-        Request::Broadcast {
-            selector,
-            mask1,
-            mask2,
-            process,
-        } => build_broadcast(setup, selector, mask1, mask2, process, out),
     }
 }

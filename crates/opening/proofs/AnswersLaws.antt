@@ -12,8 +12,8 @@ use Rattle.rows.proofs.RowsLaws.{first-chosen, chosen-first}
 use Rattle.rows.proofs.BoolLaws.{and-left, and-right}
 use Rattle.setup.specs.SetupRules.{setupOk}
 use Rattle.table.specs.Records.{entries, countsOf}
-use Rattle.answers.specs.declared.OpeningFault.{OpeningFault}
-use Rattle.answers.specs.declared.OpeningFault.the-variants.{BadSetup, BadTable, BadValues, ShortBuffer}
+use Rattle.slave_answers.specs.declared.OpeningFault.{OpeningFault}
+use Rattle.slave_answers.specs.declared.OpeningFault.the-variants.{BadSetup, BadTable, BadValues, ShortBuffer}
 use Rattle.opening.specs.declared.Opening.{Opening}
 use Rattle.opening.specs.declared.Opening.the-variants.{Passed, Closed}
 use Rattle.opening.specs.Rules.{risingFrom, eachOk, runsOk, tableOk, valuesOk}

@@ -8,7 +8,7 @@ use borrow.Author.Tests.{lt-leb, ne-eqb, eqb-true}
 use lib.ListN.{length}
 use lib.Dec.{eqb}
 use Rattle.opening.specs.declared.Opening.the-variants.{Passed, Closed}
-use Rattle.answers.specs.declared.OpeningFault.the-variants.{BadTable, BadValues}
+use Rattle.slave_answers.specs.declared.OpeningFault.the-variants.{BadTable, BadValues}
 use Rattle.opening.specs.Rules.{tableOk, valuesOk}
 use Rattle.opening.specs.Answers.{contentOf}
 

@@ -7,7 +7,7 @@ use Rattle.entry.specs.Fields.{entryOf, countOf}
 use Rattle.entry.specs.Limits.{signedOf, numberOf, atMost, fitsIn, isWithin, entryOk}
 use Rattle.table.specs.Records.{entryAt, entriesFrom, entries, countsOf}
 use Rattle.opening.specs.declared.Opening.the-variants.{Passed, Closed}
-use Rattle.answers.specs.declared.OpeningFault.the-variants.{BadSetup, BadTable, BadValues, ShortBuffer}
+use Rattle.slave_answers.specs.declared.OpeningFault.the-variants.{BadSetup, BadTable, BadValues, ShortBuffer}
 use Rattle.opening.specs.Rules.{risingFrom, eachOk, runOk, runsOk}
 use Rattle.opening.specs.Lent.{Lent}
 use Rattle.opening.specs.Answers.{openingOf}

@@ -9,7 +9,7 @@ use mathlib.Core.Bool.{Bool, not}
 use lib.Dec.{ltb}
 use Rattle.rows.specs.Rows.{firstOf}
 use Rattle.setup.specs.SetupRules.{setupOk}
-use Rattle.answers.specs.declared.OpeningFault.the-variants.{BadSetup, BadTable, BadValues, ShortBuffer}
+use Rattle.slave_answers.specs.declared.OpeningFault.the-variants.{BadSetup, BadTable, BadValues, ShortBuffer}
 use Rattle.opening.specs.declared.Opening.{Opening}
 use Rattle.opening.specs.declared.Opening.the-variants.{Passed, Closed}
 use Rattle.opening.specs.Rules.{tableOk, valuesOk}

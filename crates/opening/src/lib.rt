@@ -10,7 +10,7 @@ ghost use Rattle.entry.specs.Fields.{entryOf, countOf};
 ghost use Rattle.entry.specs.Limits.{limitsOk, isWithin};
 ghost use Rattle.opening.specs.Rules.{runOk, tableOk, valuesOk};
 ghost use Rattle.opening.specs.Answers.{contentOf, openingOf};
-use answers::OpeningFault;
+use slave_answers::OpeningFault;
 use entry::Entry;
 use entry::count_places;
 use entry::entry_of;

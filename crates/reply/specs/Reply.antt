@@ -12,10 +12,10 @@ use Rattle.rows.specs.Rows.{firstOf}
 use Rattle.words.specs.declared.Words.{Words}
 use Rattle.setup.specs.declared.Setup.{Setup}
 use Rattle.setup.specs.SetupRules.{setupOk, areaCount, otherNode, otherLength}
-use Rattle.frame.specs.Address.{decodedOf}
-use Rattle.frame.specs.declared.Fault.the-variants.{InAddress}
-use Rattle.frame.specs.declared.Decoded.{Decoded}
-use Rattle.frame.specs.declared.Decoded.the-variants.{Normal, Mirror as MirrorTelegram, Broadcast as BroadcastTelegram, Unread}
+use Rattle.address.specs.Address.{decodedOf}
+use Rattle.address.specs.declared.Fault.the-variants.{InAddress}
+use Rattle.address.specs.declared.Decoded.{Decoded}
+use Rattle.address.specs.declared.Decoded.the-variants.{Normal, Mirror as MirrorTelegram, Broadcast as BroadcastTelegram, Unread}
 use Rattle.area.specs.declared.Area.{Area}
 use Rattle.area.specs.Read.{areaAt, processAt}
 use Rattle.content.specs.declared.Question.{Question}
@@ -23,10 +23,10 @@ use Rattle.content.specs.Content.{badReply, replyContent}
 use Rattle.request.specs.declared.Request.{Request}
 use Rattle.request.specs.declared.Request.the-variants.{Task, Mirror, Broadcast}
 use Rattle.request.specs.Request.{taskAskable}
-use Rattle.answers.specs.declared.Content.the-variants.{Empty}
-use Rattle.answers.specs.declared.ReadFault.{ReadFault}
-use Rattle.answers.specs.declared.ReadFault.the-variants.{UnfitSetup, NotAsked, InTelegram, OtherNode, OtherLength, NotTheReply}
-use Rattle.answers.specs.declared.ReadAnswer.the-variants.{Read, Unread}
+use Rattle.read_answers.specs.declared.Content.the-variants.{Empty}
+use Rattle.read_answers.specs.declared.ReadFault.{ReadFault}
+use Rattle.read_answers.specs.declared.ReadFault.the-variants.{UnfitSetup, NotAsked, InTelegram, OtherNode, OtherLength, NotTheReply}
+use Rattle.read_answers.specs.declared.ReadAnswer.the-variants.{Read, Unread}
 use Rattle.reply.specs.declared.Reading.{Reading}
 
 abbrev pub zeroWords : Words

@@ -1,12 +1,12 @@
 // How a master reads the reply to a task (document 01, Answer numbers, "Reply reading").
 ghost use mathlib.Core.Path.{_≡_};
 ghost use Rattle.reply.specs.Reply.{unreadOf, readNormal, readTask, readOf, zeroWords};
-use answers::Content;
-use answers::ReadAnswer;
-use answers::ReadFault;
+use read_answers::Content;
+use read_answers::ReadAnswer;
+use read_answers::ReadFault;
 use content::Question;
-use frame::Decoded;
-use frame::Fault;
+use address::Decoded;
+use address::Fault;
 use request::Request;
 use setup::Setup;
 use words::Words;
@@ -70,7 +70,7 @@ fn read_normal(setup: Setup, asked: Question, received: &[u8], node: u8, n: usiz
 fn read_task(setup: Setup, asked: Question, received: &[u8]) -> Reading
     ensures { λ r. ⌜ r ≡ readTask setup asked (now (received .entry)) ⌝ }
 {
-    match frame::decode(received) {
+    match address::decode(received) {
         Decoded::Unread(fault) => refuse(ReadFault::InTelegram(fault)),
         Decoded::Mirror { node: _ } => refuse(ReadFault::InTelegram(Fault::InAddress)),
         Decoded::Broadcast => refuse(ReadFault::InTelegram(Fault::InAddress)),

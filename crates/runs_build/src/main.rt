@@ -24,22 +24,42 @@ fn show_bytes(t: &[u8], n: usize) {
 
 fn show_built(built: Built, out: &[u8]) {
     let answer = built.answer;
-    show_number(answers::number_built(answer) as u64);
+    show_number(build_answers::number_built(answer) as u64);
     show_number(built.length as u64);
     show_bytes(out, built.length);
     io::write_all(1, b"\n");
 }
 
+// The build of a request; net are the net bytes of a mirror.
+fn build(setup: Setup, request: Request, net: &[u8], out: &mut [u8]) -> Built {
+    match request {
+        Request::Task {
+            id,
+            number,
+            index,
+            value,
+            process,
+        } => master::build_task(setup, id, number, index, value, process, out),
+        Request::Mirror => master::build_mirror(setup, net, out),
+        Request::Broadcast {
+            selector,
+            mask1,
+            mask2,
+            process,
+        } => master::build_broadcast(setup, selector, mask1, mask2, process, out),
+    }
+}
+
 fn run(setup: Setup, request: Request, net: &[u8]) {
     let mut out = [0u8; 256];
-    let built = master::build(setup, request, net, &mut out);
+    let built = build(setup, request, net, &mut out);
     show_built(built, &out);
 }
 
 // The same into a buffer of 255 bytes.
 fn run_short(setup: Setup, request: Request, net: &[u8]) {
     let mut out = [0u8; 255];
-    let built = master::build(setup, request, net, &mut out);
+    let built = build(setup, request, net, &mut out);
     show_built(built, &out);
 }
 

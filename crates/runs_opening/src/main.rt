@@ -8,7 +8,7 @@ use setup::Setup;
 fn answer_number(answer: Opening) -> u32 {
     match answer {
         Opening::Passed => 0,
-        Opening::Closed(fault) => answers::number_opening(fault),
+        Opening::Closed(fault) => slave_answers::number_opening(fault),
     }
 }
 

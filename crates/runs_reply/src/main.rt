@@ -1,6 +1,6 @@
 // Readings of replies, a line for each: document 01's number, reply ID, value or error number, process words.
-use answers::Content;
-use answers::ReadAnswer;
+use read_answers::Content;
+use read_answers::ReadAnswer;
 use request::Request;
 use setup::Setup;
 use words::Words;
@@ -16,15 +16,15 @@ fn show_number(n: u64) {
 // The number 0, a reply ID and a value.
 fn show_content(content: Content) {
     io::write_all(1, b"0 ");
-    show_number(answers::content_id(content) as u64);
-    show_number(answers::content_value(content) as u64);
+    show_number(read_answers::content_id(content) as u64);
+    show_number(read_answers::content_value(content) as u64);
 }
 
 fn show_answer(answer: ReadAnswer) {
     match answer {
         ReadAnswer::Read(content) => show_content(content),
         ReadAnswer::Unread(fault) => {
-            show_number(answers::number_read_fault(fault) as u64);
+            show_number(read_answers::number_read_fault(fault) as u64);
             io::write_all(1, b"0 0 ");
         }
     }

@@ -170,7 +170,7 @@ fn call(
     let answer = served.answer;
     print_setup(setup);
     print_bytes(received, received.len());
-    print_answer(answers::number_answer(answer), served.length);
+    print_answer(slave_answers::number_answer(answer), served.length);
     print_bytes(&reply[..], served.length);
     print_control(next);
     print_changes(&values[..], old);

@@ -13,11 +13,11 @@ use Rattle.area.specs.declared.Area.{Area}
 use Rattle.net.specs.Normal.{normalOf, normalLength}
 use Rattle.net.specs.Telegram.{written}
 use Rattle.net.proofs.NormalLaws.{normal-sent}
-use Rattle.frame.specs.declared.Decoded.{Decoded}
-use Rattle.frame.specs.Address.{decodedOf}
+use Rattle.address.specs.declared.Decoded.{Decoded}
+use Rattle.address.specs.Address.{decodedOf}
 use Rattle.opening.specs.declared.Opening.{Opening}
 use Rattle.control.specs.Control.{voidIn}
-use Rattle.answers.specs.declared.Refusal.the-variants.{OtherNode, OtherLength, VoidBroadcast}
+use Rattle.slave_answers.specs.declared.Refusal.the-variants.{OtherNode, OtherLength, VoidBroadcast}
 use Rattle.slave.specs.Slave.{Call, openingAt, refusedOf, replyOf, normalOutcome, normalCase, mirrorOutcome, mirrorCase, takenOutcome, broadcastCase, executeDecoded, executeOf, callOpened, callOf}
 
 module _ (node n : ℕ) (k : Call) where

@@ -23,9 +23,9 @@ use Rattle.rows.specs.Rows.{firstOf}
 use Rattle.words.specs.declared.Words.{Words}
 use Rattle.setup.specs.declared.Setup.{Setup}
 use Rattle.setup.specs.SetupRules.{areaCount, otherNode, otherLength}
-use Rattle.frame.specs.Address.{decodedOf}
-use Rattle.frame.specs.declared.Decoded.{Decoded}
-use Rattle.frame.specs.declared.Decoded.the-variants.{Normal, Mirror, Broadcast, Unread}
+use Rattle.address.specs.Address.{decodedOf}
+use Rattle.address.specs.declared.Decoded.{Decoded}
+use Rattle.address.specs.declared.Decoded.the-variants.{Normal, Mirror, Broadcast, Unread}
 use Rattle.opening.specs.Lent.{Memory, Lent}
 use Rattle.opening.specs.Answers.{openingOf}
 use Rattle.opening.specs.declared.Opening.{Opening}
@@ -34,9 +34,9 @@ use Rattle.area.specs.declared.Area.{Area}
 use Rattle.area.specs.Net.{fixedWords, processWords, netOf}
 use Rattle.net.specs.Telegram.{telegramOf, written}
 use Rattle.control.specs.Control.{controlTaken, voidIn, controlCommanded}
-use Rattle.answers.specs.declared.Refusal.{Refusal}
-use Rattle.answers.specs.declared.Refusal.the-variants.{AtOpening, InTelegram, OtherNode, OtherLength, VoidBroadcast}
-use Rattle.answers.specs.declared.Answer.the-variants.{Replied, Mirrored, Taken, Refused}
+use Rattle.slave_answers.specs.declared.Refusal.{Refusal}
+use Rattle.slave_answers.specs.declared.Refusal.the-variants.{AtOpening, InTelegram, OtherNode, OtherLength, VoidBroadcast}
+use Rattle.slave_answers.specs.declared.Answer.the-variants.{Replied, Mirrored, Taken, Refused}
 use Rattle.slave.specs.declared.Served.{Served}
 use Rattle.slave.specs.Perform.{Performed, taskDone}
 

@@ -9,22 +9,22 @@ ghost use Rattle.opening.specs.Lent.{Memory};
 ghost use Rattle.opening.specs.Answers.{openingOf};
 ghost use Rattle.opening.specs.declared.Opening.the-variants.{Passed};
 ghost use Rattle.deed.specs.Deed.{DeedFits};
-ghost use Rattle.answers.specs.declared.Answer.the-variants.{Refused};
+ghost use Rattle.slave_answers.specs.declared.Answer.the-variants.{Refused};
 ghost use Rattle.slave.specs.Perform.{planIn, planAt, doneBy, Performs};
 ghost use Rattle.slave.specs.Slave.{Leaves, normalCase, mirrorCase, broadcastCase, executeOf, callOf};
-use answers::Answer;
-use answers::OpeningFault;
-use answers::Refusal;
+use slave_answers::Answer;
+use slave_answers::OpeningFault;
+use slave_answers::Refusal;
 use area::Area;
 use control::Commanded;
 use deed::Deed;
 use entry::Entry;
-use frame::Decoded;
-use frame::Fault;
+use address::Decoded;
+use address::Fault;
 use opening::Opening;
 use setup::Setup;
 use table::Found;
-use task::ParameterError;
+use verdict::ParameterError;
 use words::Words;
 
 // What a call returns: its answer, the reply's length, and the control words afterwards.
@@ -242,7 +242,7 @@ fn execute(
     requires { ⌜ openingOf (record { setup = setup; table = now table; memory = record { values = now values }; room = length (now reply) }) ≡ Passed ⌝ }
     ensures { λ r. ⌜ Leaves (executeOf (record { setup = setup; table = now (table .entry); memory = record { values = now (values .entry) }; control = control; status = status; received = now (received .entry); buffer = now (reply .entry) })) r (record { values = now (values .exit) }) (now (reply .exit)) ⌝ }
 {
-    match frame::decode(received) {
+    match address::decode(received) {
         Decoded::Unread(fault) => refuse(Refusal::InTelegram(fault), control),
         Decoded::Mirror { node } => serve_mirror(setup, control, received, reply, node),
         Decoded::Broadcast => serve_broadcast(setup, control, received, received.len() - 4),

@@ -1,3 +1,2 @@
--- Laws of tasks and errors.
+-- The laws of the definitions that the functions' proofs and the crates above cite.
 pub mod TaskLaws
-pub mod VerdictLaws

@@ -1,3 +1,2 @@
--- Tasks and errors, as document 01 has them.
+-- The tasks, as document 01 has them.
 pub mod Task
-pub mod Verdict

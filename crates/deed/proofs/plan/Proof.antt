@@ -10,8 +10,8 @@ use Rattle.deed.proofs.plan.Lts as lts
 use Rattle.deed.proofs.carry.Reads as carry-reads
 use Rattle.deed.proofs.deny.Reads as deny-reads
 use Rattle.deed.proofs.plan_act.Reads as plan-act-reads
-use Rattle.task.proofs.judge.Reads as judge-reads
-use Rattle.task.proofs.pick_element.Reads as pick-element-reads
+use Rattle.verdict.proofs.judge.Reads as judge-reads
+use Rattle.verdict.proofs.pick_element.Reads as pick-element-reads
 use Rattle.task.proofs.task_of.Reads as task-of-reads
 
 -- the verdict is that of the area's task

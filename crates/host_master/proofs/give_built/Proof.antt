@@ -4,7 +4,7 @@ use Rattle.host_master.proofs.give_built.Statement.{statement}
 use Rattle.host_master.proofs.give_built.Tie as tie
 use Rattle.host_master.proofs.give_built.Reads as reads
 use Rattle.host_master.proofs.give_built.Lts as lts
-use Rattle.answers.proofs.number_built.Reads as number-built-reads
+use Rattle.build_answers.proofs.number_built.Reads as number-built-reads
 
 cast-length : tie.Need-cast-length
 cast-length c = search needs

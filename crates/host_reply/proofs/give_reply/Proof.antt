@@ -4,9 +4,9 @@ use Rattle.host_reply.proofs.give_reply.Statement.{statement}
 use Rattle.host_reply.proofs.give_reply.Tie as tie
 use Rattle.host_reply.proofs.give_reply.Reads as reads
 use Rattle.host_reply.proofs.give_reply.Lts as lts
-use Rattle.answers.proofs.content_id.Reads as content-id-reads
-use Rattle.answers.proofs.content_value.Reads as content-value-reads
-use Rattle.answers.proofs.number_read_fault.Reads as number-read-fault-reads
+use Rattle.read_answers.proofs.content_id.Reads as content-id-reads
+use Rattle.read_answers.proofs.content_value.Reads as content-value-reads
+use Rattle.read_answers.proofs.number_read_fault.Reads as number-read-fault-reads
 
 enum-known-answer : tie.Need-enum-known-answer
 enum-known-answer c = search needs

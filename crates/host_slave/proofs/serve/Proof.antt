@@ -7,7 +7,7 @@ use Rattle.host_slave.proofs.serve.Statement.{statement}
 use Rattle.host_slave.proofs.serve.Tie as tie
 use Rattle.host_slave.proofs.serve.Reads as reads
 use Rattle.host_slave.proofs.serve.Lts as lts
-use Rattle.answers.proofs.number_answer.Reads as number-answer-reads
+use Rattle.slave_answers.proofs.number_answer.Reads as number-answer-reads
 use Rattle.slave.proofs.serve.Reads as serve-reads
 
 fits : (c : tie.After-serve) → c .serve .result .length ≤ 256

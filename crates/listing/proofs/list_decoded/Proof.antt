@@ -1,15 +1,15 @@
 -- `listing::list_decoded` meets its contract: each arm lists what `piecesOf` says of its case. Assumes nothing.
 use mathlib.Core.Path.{sym, ap, _∙_}
 use native.Mathlib.Omega.{arith}
-use Rattle.frame.proofs.DecodedLaws.{isTelegram}
+use Rattle.address.proofs.DecodedLaws.{isTelegram}
 use Rattle.listing.proofs.ListingLaws.{listing-by, telegram-long}
 use borrow.Author.Needs.{needs}
 use Rattle.listing.proofs.list_decoded.Statement.{statement}
 use Rattle.listing.proofs.list_decoded.Tie as tie
 use Rattle.listing.proofs.list_decoded.Reads as reads
 use Rattle.listing.proofs.list_decoded.Lts as lts
-use Rattle.frame.proofs.decode.Reads as decode-reads
-use Rattle.frame.proofs.number_fault.Reads as number-fault-reads
+use Rattle.address.proofs.decode.Reads as decode-reads
+use Rattle.address.proofs.number_fault.Reads as number-fault-reads
 use Rattle.listing.proofs.list_good.Reads as list-good-reads
 use Rattle.listing.proofs.list_refused.Reads as list-refused-reads
 
@@ -67,9 +67,6 @@ cast-list-refused c = search needs
 
 number-fault-requires : tie.Need-number-fault-requires
 number-fault-requires c κs = search needs
-
-cast-list-refused-2 : tie.Need-cast-list-refused-2
-cast-list-refused-2 c = search needs
 
 list-refused-requires : tie.Need-list-refused-requires
 list-refused-requires c κs = search needs
@@ -137,7 +134,6 @@ list-decoded-spec =
     enum-known-fault
     cast-list-refused
     number-fault-requires
-    cast-list-refused-2
     list-refused-requires
     same-length
     returns

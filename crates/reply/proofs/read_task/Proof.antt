@@ -1,14 +1,14 @@
 -- `reply::read_task` meets its contract, kind by kind. Assumes nothing.
 use mathlib.Core.Path.{refl, sym, _∙_}
 use native.Mathlib.Omega.{arith}
-use Rattle.frame.proofs.DecodedLaws.{telegram-framed, normal-bounds}
+use Rattle.address.proofs.DecodedLaws.{telegram-framed, normal-bounds}
 use Rattle.reply.specs.Reply.{readTask}
 use borrow.Author.Needs.{needs}
 use Rattle.reply.proofs.read_task.Statement.{statement}
 use Rattle.reply.proofs.read_task.Tie as tie
 use Rattle.reply.proofs.read_task.Reads as reads
 use Rattle.reply.proofs.read_task.Lts as lts
-use Rattle.frame.proofs.decode.Reads as decode-reads
+use Rattle.address.proofs.decode.Reads as decode-reads
 use Rattle.reply.proofs.read_normal.Reads as read-normal-reads
 use Rattle.reply.proofs.refuse.Reads as refuse-reads
 

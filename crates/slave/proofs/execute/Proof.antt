@@ -1,7 +1,7 @@
 -- `slave::execute` meets its contract, kind by kind. Assumes nothing.
 use mathlib.Core.Path.{refl, sym, _∙_}
 use native.Mathlib.Omega.{arith}
-use Rattle.frame.proofs.DecodedLaws.{telegram-framed, normal-bounds}
+use Rattle.address.proofs.DecodedLaws.{telegram-framed, normal-bounds}
 use Rattle.opening.proofs.AnswersLaws.{Opened, passed-opened}
 use Rattle.slave.proofs.CaseLaws.{executed}
 use Rattle.slave.specs.Slave.{Call, lentBy}
@@ -10,7 +10,7 @@ use Rattle.slave.proofs.execute.Statement.{statement}
 use Rattle.slave.proofs.execute.Tie as tie
 use Rattle.slave.proofs.execute.Reads as reads
 use Rattle.slave.proofs.execute.Lts as lts
-use Rattle.frame.proofs.decode.Reads as decode-reads
+use Rattle.address.proofs.decode.Reads as decode-reads
 use Rattle.slave.proofs.refuse.Reads as refuse-reads
 use Rattle.slave.proofs.serve_broadcast.Reads as serve-broadcast-reads
 use Rattle.slave.proofs.serve_mirror.Reads as serve-mirror-reads

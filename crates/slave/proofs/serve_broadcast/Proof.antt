@@ -4,7 +4,7 @@ use Prim.Native.Nat.{ℕ}
 use mathlib.Core.List.{List}
 use Rattle.words.specs.declared.Words.{Words}
 use Rattle.opening.specs.Lent.{Memory}
-use Rattle.answers.specs.declared.Answer.the-variants.{Taken}
+use Rattle.slave_answers.specs.declared.Answer.the-variants.{Taken}
 use Rattle.control.proofs.ControlLaws.{is-void, is-changed}
 use Rattle.slave.specs.Slave.{Call}
 use Rattle.slave.proofs.CaseLaws.{broadcast-other-length, broadcast-void, broadcast-taken}

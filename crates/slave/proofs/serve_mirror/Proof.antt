@@ -7,7 +7,7 @@ use Rattle.setup.proofs.SetupLaws.{node-own, node-other}
 use Rattle.store.specs.Placed.{Placed}
 use Rattle.store.proofs.StoreLaws.{put-front}
 use Rattle.opening.specs.Lent.{Memory}
-use Rattle.answers.specs.declared.Answer.the-variants.{Mirrored}
+use Rattle.slave_answers.specs.declared.Answer.the-variants.{Mirrored}
 use Rattle.slave.specs.Slave.{Call}
 use Rattle.slave.proofs.CaseLaws.{mirror-other-node, mirror-sent}
 use borrow.Author.Needs.{needs}

@@ -1,0 +1,4 @@
+-- The laws of the definitions that the functions' proofs and the crates above cite.
+pub mod AddressLaws
+pub mod DecodedLaws
+pub mod NumberLaws

@@ -1,0 +1,2 @@
+-- The address byte and the decoded telegram, as document 01 has them.
+pub mod Address

@@ -1,0 +1,2 @@
+-- The document's numbers of a build's answers.
+pub mod BuildNumbers

@@ -1,0 +1,2 @@
+-- The document's numbers of a reading's answers.
+pub mod ReadNumbers

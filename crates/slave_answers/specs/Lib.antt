@@ -1,0 +1,2 @@
+-- The document's numbers of the slave's answers.
+pub mod SlaveNumbers

@@ -1,0 +1,2 @@
+-- The laws of the definitions that the functions' proofs and the crates above cite.
+pub mod VerdictLaws

@@ -1,0 +1,2 @@
+-- The errors of a task, as document 01 has them.
+pub mod Verdict
