@@ -5,8 +5,8 @@ ghost use Prim.Native.Nat.{_≤_};
 ghost use lib.Dec.{eqb, ltb};
 ghost use Rattle.task.specs.Task.{isDoubleId};
 ghost use Rattle.content.specs.Content.{inRow, knownId, allZero, badReply, replyContent};
-use read_answers::Content;
 use area::Area;
+use read_answers::Content;
 use task::Act;
 
 // What a reply answers: the task, and the number and the index that it repeats.

@@ -9,10 +9,10 @@ ghost use Rattle.deed.specs.Deed.{replyArea, errorArea, taskIn, valueIn,
 use area::Area;
 use entry::Entry;
 use task::Act;
-use verdict::ParameterError;
 use task::Task;
-use verdict::Verdict;
 use task::Width;
+use verdict::ParameterError;
+use verdict::Verdict;
 
 // What is to be done: the reply's area as it stands, or with the element's value read into it, or with its value written to the element.
 pub enum Deed {

@@ -88,11 +88,7 @@ fn list_decoded(t: &[u8], out: &mut [u8]) -> usize
         } => list_good(t, node, b"normal", out),
         Decoded::Mirror { node } => list_good(t, node, b"mirror", out),
         Decoded::Broadcast => list_good(t, t[2] % 32, b"broadcast", out),
-        Decoded::Unread(fault) => list_refused(
-            t.len() as u32,
-            address::number_fault(fault),
-            out,
-        ),
+        Decoded::Unread(fault) => list_refused(t.len() as u32, address::number_fault(fault), out),
     }
 }
 

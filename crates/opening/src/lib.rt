@@ -10,7 +10,6 @@ ghost use Rattle.entry.specs.Fields.{entryOf, countOf};
 ghost use Rattle.entry.specs.Limits.{limitsOk, isWithin};
 ghost use Rattle.opening.specs.Rules.{runOk, tableOk, valuesOk};
 ghost use Rattle.opening.specs.Answers.{contentOf, openingOf};
-use slave_answers::OpeningFault;
 use entry::Entry;
 use entry::count_places;
 use entry::entry_of;
@@ -18,6 +17,7 @@ use entry::entry_ok;
 use entry::within;
 use setup::Setup;
 use setup::setup_ok;
+use slave_answers::OpeningFault;
 use table::Record;
 use table::record_of;
 

@@ -1,12 +1,12 @@
 // How a master reads the reply to a task (document 01, Answer numbers, "Reply reading").
 ghost use mathlib.Core.Path.{_≡_};
 ghost use Rattle.reply.specs.Reply.{unreadOf, readNormal, readTask, readOf, zeroWords};
+use address::Decoded;
+use address::Fault;
+use content::Question;
 use read_answers::Content;
 use read_answers::ReadAnswer;
 use read_answers::ReadFault;
-use content::Question;
-use address::Decoded;
-use address::Fault;
 use request::Request;
 use setup::Setup;
 use words::Words;
