@@ -1,124 +1,126 @@
 // Builds of requests, a line for each: document 01's number, the length, the telegram's bytes.
+ghost use Prim.Native.Nat.{_≤_};
 use master::Built;
-use request::Request;
 use setup::Setup;
 use words::Words;
 
-fn show_number(n: u64) {
-    io::print_decimal(1, n);
-    io::write_all(1, b" ");
+// Node 3 and two process words, with four, three and no parameter words.
+const FOUR: Setup = Setup {
+    node: 3,
+    pkw: 4,
+    pzd: 2,
+};
+
+const THREE: Setup = Setup {
+    node: 3,
+    pkw: 3,
+    pzd: 2,
+};
+
+const NONE: Setup = Setup {
+    node: 3,
+    pkw: 0,
+    pzd: 2,
+};
+
+// Four parameter words and one process word.
+const ONE: Setup = Setup {
+    node: 3,
+    pkw: 4,
+    pzd: 1,
+};
+
+const USUAL: Words = Words {
+    w1: 0x047f,
+    w2: 0x2000,
+    w3: 0,
+    w4: 0,
+};
+
+// ---- lines
+
+fn put(b: u8) {
+    let text = [b; 1];
+    io::write_all(1, &text);
 }
 
-fn show_byte(b: u8) {
+fn put_number(n: u64) {
+    io::print_decimal(1, n);
+    put(32);
+}
+
+fn put_byte(b: u8) {
     io::print_hex(1, b as u64, 2);
 }
 
 // The first n bytes, in hexadecimal.
-fn show_bytes(t: &[u8], n: usize) {
+fn put_bytes(t: &[u8], n: usize) {
     for i in 0..t.len() {
         if i < n {
-            show_byte(t[i]);
+            put_byte(t[i]);
         }
     }
 }
 
-fn show_built(built: Built, out: &[u8]) {
+fn show(built: Built, out: &[u8]) {
     let answer = built.answer;
-    show_number(build_answers::number_built(answer) as u64);
-    show_number(built.length as u64);
-    show_bytes(out, built.length);
-    io::write_all(1, b"\n");
+    put_number(build_answers::number_built(answer) as u64);
+    put_number(built.length as u64);
+    put_bytes(out, built.length);
+    put(10);
 }
 
-// The build of a request; net are the net bytes of a mirror.
-fn build(setup: Setup, request: Request, net: &[u8], out: &mut [u8]) -> Built {
-    match request {
-        Request::Task {
-            id,
-            number,
-            index,
-            value,
-            process,
-        } => master::build_task(setup, id, number, index, value, process, out),
-        Request::Mirror => master::build_mirror(setup, net, out),
-        Request::Broadcast {
-            selector,
-            mask1,
-            mask2,
-            process,
-        } => master::build_broadcast(setup, selector, mask1, mask2, process, out),
-    }
+// ---- requests
+
+fn ask_into(
+    setup: Setup,
+    id: u8,
+    number: u16,
+    index: u8,
+    value: u32,
+    process: Words,
+    out: &mut [u8],
+) {
+    let built = master::build_task(setup, id, number, index, value, process, out);
+    show(built, &out[..]);
 }
 
-fn run(setup: Setup, request: Request, net: &[u8]) {
+// A task in a buffer of so many bytes.
+fn ask(setup: Setup, id: u8, number: u16, index: u8, value: u32, process: Words, room: usize)
+    requires { ⌜ room ≤ 256 ⌝ }
+{
     let mut out = [0u8; 256];
-    let built = build(setup, request, net, &mut out);
-    show_built(built, &out);
-}
-
-// The same into a buffer of 255 bytes.
-fn run_short(setup: Setup, request: Request, net: &[u8]) {
-    let mut out = [0u8; 255];
-    let built = build(setup, request, net, &mut out);
-    show_built(built, &out);
-}
-
-fn set_up(node: u8, pkw: u8, pzd: u8) -> Setup {
-    Setup { node, pkw, pzd }
-}
-
-// Node 3 and two process words, with four, three and no parameter words.
-fn four() -> Setup {
-    set_up(3, 4, 2)
-}
-
-fn three() -> Setup {
-    set_up(3, 3, 2)
-}
-
-fn none() -> Setup {
-    set_up(3, 0, 2)
-}
-
-fn all_words(w1: u16, w2: u16, w3: u16, w4: u16) -> Words {
-    Words { w1, w2, w3, w4 }
-}
-
-fn usual() -> Words {
-    all_words(0x047f, 0x2000, 0, 0)
-}
-
-fn ask(id: u8, number: u16, index: u8, value: u32) -> Request {
-    Request::Task {
-        id,
-        number,
-        index,
-        value,
-        process: usual(),
-    }
-}
-
-fn command(selector: u16, mask1: u16, mask2: u16, process: Words) -> Request {
-    Request::Broadcast {
-        selector,
-        mask1,
-        mask2,
-        process,
-    }
+    ask_into(setup, id, number, index, value, process, &mut out[0..room]);
 }
 
 // A task in four words, and in three.
 fn ask_four(id: u8, number: u16, index: u8, value: u32) {
-    run(four(), ask(id, number, index, value), b"");
+    ask(FOUR, id, number, index, value, USUAL, 256);
 }
 
 fn ask_three(id: u8, number: u16, index: u8, value: u32) {
-    run(three(), ask(id, number, index, value), b"");
+    ask(THREE, id, number, index, value, USUAL, 256);
 }
 
-// A broadcast in four words.
-fn command_four(selector: u16, mask1: u16, mask2: u16) {
-    run(four(), command(selector, mask1, mask2, usual()), b"");
+fn mirror_into(setup: Setup, net: &[u8], out: &mut [u8]) {
+    let built = master::build_mirror(setup, net, out);
+    show(built, &out[..]);
+}
+
+// A mirror of n net bytes, 02 the second, in a buffer of so many bytes.
+fn mirror(setup: Setup, first: u8, n: usize, room: usize)
+    requires { ⌜ n ≤ 2 ⌝ }
+    requires { ⌜ room ≤ 256 ⌝ }
+{
+    let net = [first, 2];
+    let mut out = [0u8; 256];
+    mirror_into(setup, &net[0..n], &mut out[0..room]);
+}
+
+fn command(setup: Setup, selector: u16, mask1: u16, mask2: u16, process: Words) {
+    let mut out = [0u8; 256];
+    let built = master::build_broadcast(setup, selector, mask1, mask2, process, &mut out);
+    show(built, &out);
 }
 
 fn main() {
@@ -160,12 +162,36 @@ fn ask_double_changes() {
 
 // Set-ups that may not be used, requests that cannot be asked, a short buffer; in this order.
 fn refuse_before() {
-    run_short(set_up(32, 4, 2), ask(1, 1082, 0, 0), b"");
-    run(set_up(3, 0, 0), ask(0, 0, 0, 0), b"");
+    ask(
+        Setup {
+            node: 32,
+            pkw: 4,
+            pzd: 2,
+        },
+        1,
+        1082,
+        0,
+        0,
+        USUAL,
+        255,
+    );
+    ask(
+        Setup {
+            node: 3,
+            pkw: 0,
+            pzd: 0,
+        },
+        0,
+        0,
+        0,
+        0,
+        USUAL,
+        256,
+    );
     ask_four(1, 1082, 255, 0);
     ask_four(2, 1082, 0, 65536);
-    run_short(four(), ask(1, 32000, 0, 0), b"");
-    run_short(four(), ask(1, 1082, 0, 0), b"");
+    ask(FOUR, 1, 32000, 0, 0, USUAL, 255);
+    ask(FOUR, 1, 1082, 0, 0, USUAL, 255);
     ask_three(3, 1082, 0, 1);
     ask_four(1, 1082, 0, 1);
 }
@@ -177,46 +203,72 @@ fn refuse_tasks() {
     ask_four(10, 1082, 0, 0);
     ask_four(15, 1082, 0, 0);
     ask_four(0, 1, 0, 0);
-    run(none(), ask(1, 1082, 0, 0), b"");
-    run(none(), ask(0, 0, 0, 0), b"");
-    run(
-        four(),
-        Request::Task {
-            id: 1,
-            number: 1082,
-            index: 0,
-            value: 0,
-            process: all_words(0x047f, 0x0000, 1, 0),
+    ask(NONE, 1, 1082, 0, 0, USUAL, 256);
+    ask(NONE, 0, 0, 0, 0, USUAL, 256);
+    ask(
+        FOUR,
+        1,
+        1082,
+        0,
+        0,
+        Words {
+            w1: 0x047f,
+            w2: 0x0000,
+            w3: 1,
+            w4: 0,
         },
-        b"",
+        256,
     );
 }
 
-// Mirrors: none, one and two net bytes, a short buffer; node 31.
+// Mirrors: none, one and two net bytes, node 31 the last; a short buffer.
 fn send_mirrors() {
-    run(four(), Request::Mirror, b"");
-    run(four(), Request::Mirror, b"\x55");
-    run(set_up(31, 0, 1), Request::Mirror, b"\x01\x02");
-    run_short(four(), Request::Mirror, b"\x01");
+    mirror(FOUR, 0x55, 0, 256);
+    mirror(FOUR, 0x55, 1, 256);
+    mirror(
+        Setup {
+            node: 31,
+            pkw: 0,
+            pzd: 1,
+        },
+        0x01,
+        2,
+        256,
+    );
+    mirror(FOUR, 0x01, 1, 255);
 }
 
 // Broadcasts: K9 and K10, three words, void ones, one with an unused process word.
 fn send_broadcasts() {
-    run(
-        four(),
-        command(6, 0x0401, 0x0000, all_words(0x0401, 0x2000, 0, 0)),
-        b"",
+    command(
+        FOUR,
+        6,
+        0x0401,
+        0x0000,
+        Words {
+            w1: 0x0401,
+            w2: 0x2000,
+            w3: 0,
+            w4: 0,
+        },
     );
-    command_four(2, 0xffff, 0x0000);
-    run(three(), command(6, 0x0400, 0xffff, usual()), b"");
-    command_four(4, 0x0400, 0xffff);
-    command_four(2, 0x0001, 0x0000);
-    command_four(10, 0x0400, 0x0000);
-    run(
-        set_up(3, 4, 1),
-        command(6, 0x0400, 0x0000, all_words(0x0400, 0x0000, 0, 0)),
-        b"",
+    command(FOUR, 2, 0xffff, 0x0000, USUAL);
+    command(THREE, 6, 0x0400, 0xffff, USUAL);
+    command(FOUR, 4, 0x0400, 0xffff, USUAL);
+    command(FOUR, 2, 0x0001, 0x0000, USUAL);
+    command(FOUR, 10, 0x0400, 0x0000, USUAL);
+    command(
+        ONE,
+        6,
+        0x0400,
+        0x0000,
+        Words {
+            w1: 0x0400,
+            w2: 0x0000,
+            w3: 0,
+            w4: 0,
+        },
     );
-    run(none(), command(2, 0x0400, 0x0000, usual()), b"");
-    run(set_up(3, 4, 1), command(2, 0x0400, 0x0000, usual()), b"");
+    command(NONE, 2, 0x0400, 0x0000, USUAL);
+    command(ONE, 2, 0x0400, 0x0000, USUAL);
 }

@@ -1,159 +1,126 @@
-// Listings of known telegrams (document 01, Listing program, and the telegrams to run), whose output is compared.
+// Listings of known telegrams (document 01, Listing program, and the telegrams to run): of those of standard input, whose lines have
+// a telegram's bytes in hexadecimal and behind # what it is, then of long ones, then into short and long buffers. Each line is
+// written as it is, and a telegram's listing below it.
+ghost use Prim.Native.Nat.{_≤_};
+ghost use lib.ListN.{length};
+
+// The example of document 01.
+const K1: [u8; 9] = *b"\x02\x07\x00\x04\x00\x21\x00\x1c\x3c";
+
+// The value of a hexadecimal digit.
+fn digit(b: u8) -> u8 {
+    if b < 58 { b % 16 } else { (b % 16 + 9) % 16 }
+}
+
+fn byte_of(high: u8, low: u8) -> u8 {
+    digit(high) % 16 * 16 + digit(low) % 16
+}
+
+// The bytes of a line, each two digits and a space, up to #: how many they are.
+fn read_bytes(line: &[u8], out: &mut [u8]) -> usize
+    ensures { λ r. ⌜ r ≤ length (now (out .exit)) ⌝ }
+{
+    let mut i = 0;
+    let mut n = 0;
+    while i + 1 < line.len() {
+        if line[i] == 35 {
+            return n;
+        }
+        if out.len() <= n {
+            return n;
+        }
+        out[n] = byte_of(line[i], line[i + 1]);
+        i += 3;
+        n += 1;
+    }
+    n
+}
+
+fn put(b: u8) {
+    let text = [b; 1];
+    io::write_all(1, &text);
+}
+
 fn run(received: &[u8]) {
     let mut out = [0u8; 64];
     let m = listing::list(received, &mut out) as usize;
     io::write_all(1, &out[..m]);
 }
 
-// The three kinds, and what is no telegram because of its address byte.
-fn list_kinds() {
-    // normal, node 0 and node 31
-    run(b"\x02\x03\x00\x15\x14");
-    run(b"\x02\x03\x1f\x15\x0b");
-    // mirror, node 0 and node 31
-    run(b"\x02\x03\x40\x15\x54");
-    run(b"\x02\x03\x5f\x15\x4b");
-    // broadcast, without and with node bits
-    run(b"\x02\x06\x20\x00\x02\x04\x01\x23");
-    run(b"\x02\x03\x2a\x15\x3e");
-    // 15: bit 7
-    run(b"\x02\x03\x80\x15\x94");
-    // 15: bits 5 and 6 together
-    run(b"\x02\x03\x60\x15\x74");
-    // 15: all bits
-    run(b"\x02\x03\xff\x15\xeb");
+fn run_line(line: &[u8]) {
+    io::write_all(1, line);
+    put(10);
+    let mut bytes = [0u8; 64];
+    let n = read_bytes(line, &mut bytes);
+    if 0 < n {
+        run(&bytes[0..n]);
+    }
 }
 
-// The numbers 10 to 15, and their order.
-fn list_refused() {
-    // 10: nothing, and four bytes of a sound telegram
-    run(b"");
-    run(b"\x02\x03\x00\x15");
-    // 10 before 12: LGE 2 with four bytes
-    run(b"\x02\x02\x00\x00");
-    // 11: another first byte, and before a wrong LGE
-    run(b"\x03\x03\x00\x15\x15");
-    run(b"\x00\x00\x00\x00\x00");
-    // 12: LGE 2 with five bytes and a right BCC, LGE 0 and 255 with 20 bytes
-    run(b"\x02\x02\x00\x15\x15");
-    run(b"\x02\x00\x00\x00\x00\x00\x00\x00\x00\x00\x00\x00\x00\x00\x00\x00\x00\x00\x00\x00");
-    run(b"\x02\xff\x00\x00\x00\x00\x00\x00\x00\x00\x00\x00\x00\x00\x00\x00\x00\x00\x00\x00");
-    // 13: one byte too many
-    run(b"\x02\x03\x00\x15\x14\x00");
+fn run_lines(text: &[u8]) {
+    let mut at = 0;
+    for i in 0..text.len() {
+        if text[i] == 10 {
+            if at <= i {
+                run_line(&text[at..i]);
+            }
+            at = i + 1;
+        }
+    }
 }
 
-// Counts, and 14 before 15.
-fn list_counts() {
-    // 13: one byte too few
-    run(b"\x02\x04\x00\x15\x13");
-    // 13: 16 bytes with LGE 254
-    run(b"\x02\xfe\x03\x14\x3a\x00\x00\x00\x00\x00\x00\x04\x7f\x20\x00\x8a");
-    // LGE 3, the smallest
-    run(b"\x02\x03\x00\x00\x01");
-    // 14: a wrong BCC, and before a bad address byte
-    run(b"\x02\x03\x00\x15\x15");
-    run(b"\x02\x03\x80\x15\x15");
-    // 14: the BCC without the 02
-    run(b"\x02\x03\x00\x15\x16");
-    // a net part of odd length
-    run(b"\x02\x05\x03\x01\x02\x03\x04");
-}
-
-// The telegrams K2 to K6 of document 01.
-fn list_known() {
-    // K2
-    run(b"\x02\x0e\x03\x14\x3a\x00\x00\x00\x00\x00\x00\x04\x7f\x20\x00\x7a");
-    // K3 and K4, its replies
-    run(b"\x02\x0e\x03\x14\x3a\x00\x00\x00\x00\x13\x88\x03\x31\x20\x00\xa8");
-    run(b"\x02\x0e\x03\x74\x3a\x00\x00\x00\x00\x00\x00\x03\x31\x20\x00\x53");
-    // K5: K2 ending 7B
-    run(b"\x02\x0e\x03\x14\x3a\x00\x00\x00\x00\x00\x00\x04\x7f\x20\x00\x7b");
-    // K6: K2 with LGE 0F
-    run(b"\x02\x0f\x03\x14\x3a\x00\x00\x00\x00\x00\x00\x04\x7f\x20\x00\x7a");
-}
-
-// The telegrams that document 003 prints, as printed.
-fn list_printed() {
-    // K1: the example of document 01, and its reply
-    run(b"\x02\x07\x00\x04\x00\x21\x00\x1c\x3c");
-    run(b"\x02\x05\x00\x00\x0c\x06\x0d");
-    // the mirror message
-    run(b"\x02\x0a\x40\x00\x01\x02\x03\x04\x05\x06\x07\x48");
-    // example A; its reply has 23 bytes where LGE says 22: 13
-    run(b"\x02\x07\x00\x04\x01\xc2\x00\x1a\xd8");
-    run(
-        b"\x02\x14\x00\x00\x46\x44\x53\x20\x34\x30\x32\x34\x2f\x42\x20\x20\x20\x20\x20\x20\x20\x00\x68",
-    );
-    // example B; its reply has 7 bytes where LGE says 8: 13
-    run(b"\x02\x07\x00\x04\x00\x21\x00\x0e\x2e");
-    run(b"\x02\x06\x00\x00\x12\x34\x22");
-    // example C and its reply
-    run(b"\x02\x08\x00\x05\x00\x2b\x00\x1d\x1b\x22");
-    run(b"\x02\x03\x00\x15\x14");
-}
-
-// More of them.
-fn list_printed_more() {
-    // example D: 22 is printed where the XOR is 6B, and CF where it is CE: 14
-    run(b"\x02\x09\x00\x05\x00\x35\x00\x00\x05\x55\x22");
-    run(b"\x02\x09\x00\x05\x00\x35\x00\x00\x01\xf4\xcf");
-    // its reply
-    run(b"\x02\x03\x00\x00\x01");
-    // example E and its reply
-    run(b"\x02\x07\x00\x04\x00\x21\x00\x56\x76");
-    run(b"\x02\x07\x00\x00\x00\x00\x44\x33\x72");
-}
-
-// Telegrams of 02, LGE, zeros, and the XOR of the first two bytes at place 255.
-fn list_long() {
+// The first n bytes of 02, LGE, zeros, and the XOR of 02 and 254 at place 255.
+fn list_long(lge: u8, n: usize)
+    requires { ⌜ n ≤ 320 ⌝ }
+{
     let mut t = [0u8; 320];
     t[0] = 2;
-    t[1] = 254;
+    t[1] = lge;
     t[255] = 252;
+    run(&t[0..n]);
+}
+
+fn list_all_long() {
+    // 10: nothing
+    list_long(254, 0);
     // passes: the longest telegram
-    run(&t[..256]);
+    list_long(254, 256);
     // 13: one byte too few, and 256 good bytes with more behind them
-    run(&t[..255]);
-    run(&t[..257]);
-    run(&t[..299]);
-    run(&t[..300]);
+    list_long(254, 255);
+    list_long(254, 257);
+    list_long(254, 299);
+    list_long(254, 300);
     // the same: what is past 300 bytes is not counted
-    run(&t[..301]);
-    run(&t);
+    list_long(254, 301);
+    list_long(254, 320);
     // 12: LGE 255
-    t[1] = 255;
-    run(&t[..257]);
+    list_long(255, 257);
 }
 
-// What a call returned, and the whole buffer after it.
-fn show(length: u32, out: &[u8]) {
+// What a call on the example returned, and the whole buffer after it.
+fn show(out: &mut [u8]) {
+    let length = listing::list(&K1, out);
     io::print_decimal(1, length as u64);
-    io::write_all(1, b"\n");
-    io::write_all(1, out);
-    io::write_all(1, b"\n");
+    put(10);
+    io::write_all(1, &out[..]);
+    put(10);
 }
 
-// The example of document 01 into a buffer that is too short, that just takes it, and that is longer.
-fn list_into() {
-    let t = b"\x02\x07\x00\x04\x00\x21\x00\x1c\x3c";
-    let mut short = [46u8; 53];
-    let a = listing::list(t, &mut short);
-    show(a, &short);
-    let mut exact = [46u8; 54];
-    let b = listing::list(t, &mut exact);
-    show(b, &exact);
-    let mut longer = [46u8; 60];
-    let c = listing::list(t, &mut longer);
-    show(c, &longer);
+// The example into a buffer of so many bytes.
+fn list_into(room: usize)
+    requires { ⌜ room ≤ 60 ⌝ }
+{
+    let mut out = [46u8; 60];
+    show(&mut out[0..room]);
 }
 
 fn main() {
-    list_kinds();
-    list_refused();
-    list_counts();
-    list_known();
-    list_printed();
-    list_printed_more();
-    list_long();
-    list_into();
+    let mut text = io::large_buffer();
+    let n = io::read_full(0, &mut text);
+    run_lines(&text[..n]);
+    list_all_long();
+    // too short, just long enough, and longer
+    list_into(53);
+    list_into(54);
+    list_into(60);
 }

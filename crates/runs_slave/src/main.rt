@@ -1,9 +1,9 @@
-// Runs the slave call on the telegrams of standard input, whose first lines say how it is read, and writes a line for each: the
-// set-up, the received bytes, document 01's answer number, the reply's length and bytes, the control words, and each value place that
-// is not as it was.
+// Runs the slave call on the telegrams of standard input, whose first lines say how it is read. Writes each line as it is, and below
+// one with a telegram what the call gave: document 01's answer number, the reply's length and bytes, the control words and the values.
 ghost use Prim.Native.Nat.{_≤_};
+ghost use lib.ListN.{length};
+use host_slave::HostAnswer;
 use setup::Setup;
-use slave::serve;
 use words::Words;
 
 // The drive of documents 000 and 002: P554 four words, P700 a word, P1082 and P2000 doubles, P2010 two words of 4 to 12.
@@ -31,292 +31,220 @@ const BENCH_VALUES: [u32; 11] = [
     3,
 ];
 
+// The words that a slave starts from, and its status words.
+const CONTROL: Words = Words {
+    w1: 0x047e,
+    w2: 0x1111,
+    w3: 0x2222,
+    w4: 0x3333,
+};
+
+const STATUS: Words = Words {
+    w1: 0x0331,
+    w2: 0x2000,
+    w3: 0x4444,
+    w4: 0x5555,
+};
+
+// The values and the control words that a call on the bench leaves.
+struct Left {
+    values: [u32; 11],
+    control: Words,
+}
+
+// What they are at first.
+const FIRST: Left = Left {
+    values: BENCH_VALUES,
+    control: CONTROL,
+};
+
 // ---- lines that are read
 
 // The value of a hexadecimal digit.
-fn digit(b: u8) -> u8
-    ensures { λ r. ⌜ r ≤ 15 ⌝ }
-{
+fn digit(b: u8) -> u8 {
     if b < 58 { b % 16 } else { (b % 16 + 9) % 16 }
 }
 
 fn byte_of(high: u8, low: u8) -> u8 {
-    digit(high) * 16 + digit(low)
+    digit(high) % 16 * 16 + digit(low) % 16
 }
 
-// The bytes at the start of a text, up to a space: how many they are.
-fn read_bytes(text: &[u8], out: &mut [u8]) -> usize {
+// The bytes of a line, each two digits and a space, up to #: how many they are.
+fn read_bytes(line: &[u8], out: &mut [u8]) -> usize
+    ensures { λ r. ⌜ r ≤ length (now (out .exit)) ⌝ }
+{
     let mut i = 0;
     let mut n = 0;
-    while i + 1 < text.len() {
-        if text[i] == 32 {
+    while i + 1 < line.len() {
+        if line[i] == 35 {
             return n;
         }
         if out.len() <= n {
             return n;
         }
-        out[n] = byte_of(text[i], text[i + 1]);
-        i += 2;
+        out[n] = byte_of(line[i], line[i + 1]);
+        i += 3;
         n += 1;
     }
     n
 }
 
-// Where the line ends that starts at a place.
-fn find_end(text: &[u8], at: usize) -> usize {
-    let mut i = at;
-    while i < text.len() {
-        if text[i] == 10 {
-            return i;
-        }
-        i += 1;
-    }
-    i
-}
-
 // ---- lines that are written
 
-fn print_word(w: u16) {
-    io::write_all(1, b" ");
-    io::print_hex(1, w as u64, 4);
+fn put(b: u8) {
+    let text = [b; 1];
+    io::write_all(1, &text);
 }
 
-fn print_control(control: Words) {
-    io::write_all(1, b", control");
-    print_word(control.w1);
-    print_word(control.w2);
-    print_word(control.w3);
-    print_word(control.w4);
+// A space, and a number of so many digits.
+fn put_hex(n: u32, digits: usize) {
+    put(32);
+    io::print_hex(1, n as u64, digits);
+}
+
+fn put_byte(b: u8) {
+    put_hex(b as u32, 2);
 }
 
 // The first n bytes.
-fn print_bytes(bytes: &[u8], n: usize) {
+fn put_bytes(bytes: &[u8], n: u32) {
     for i in 0..bytes.len() {
-        if i < n {
-            io::print_hex(1, bytes[i] as u64, 2);
+        if i < n as usize {
+            put_byte(bytes[i]);
         }
     }
 }
 
-fn print_place(place: usize, value: u32) {
-    io::write_all(1, b", ");
-    io::print_decimal(1, place as u64);
-    io::write_all(1, b"=");
-    io::print_hex(1, value as u64, 1);
+fn put_words(words: Words) {
+    put(44);
+    put_hex(words.w1 as u32, 4);
+    put_hex(words.w2 as u32, 4);
+    put_hex(words.w3 as u32, 4);
+    put_hex(words.w4 as u32, 4);
 }
 
-// The places that are not as they were.
-fn print_changes(values: &[u32], old: &[u32]) {
+fn put_values(values: &[u32]) {
+    put(44);
     for i in 0..values.len() {
-        if i < old.len() {
-            if values[i] != old[i] {
-                print_place(i, values[i]);
-            }
-        }
+        put_hex(values[i], 1);
     }
 }
 
-fn print_setup(setup: Setup) {
-    io::print_decimal(1, setup.node as u64);
-    io::write_all(1, b" ");
-    io::print_decimal(1, setup.pkw as u64);
-    io::write_all(1, b" ");
-    io::print_decimal(1, setup.pzd as u64);
-    io::write_all(1, b" ");
-}
-
-fn print_answer(number: u32, length: usize) {
-    io::write_all(1, b": ");
-    io::print_decimal(1, number as u64);
-    io::write_all(1, b", ");
-    io::print_decimal(1, length as u64);
-    if length != 0 {
-        io::write_all(1, b" ");
-    }
+fn put_answer(answer: HostAnswer, reply: &[u8]) {
+    put(10);
+    io::print_decimal(1, answer.number as u64);
+    put(44);
+    put(32);
+    io::print_decimal(1, answer.length as u64);
+    put_bytes(reply, answer.length);
+    put_words(answer.control);
 }
 
 // ---- calls
 
-fn start_control() -> Words {
-    Words {
-        w1: 0x047e,
-        w2: 0x1111,
-        w3: 0x2222,
-        w4: 0x3333,
-    }
-}
-
-fn status() -> Words {
-    Words {
-        w1: 0x0331,
-        w2: 0x2000,
-        w3: 0x4444,
-        w4: 0x5555,
-    }
-}
-
-// One call, and its line: the control words that it leaves.
+// One call: the control words that it leaves.
 fn call(
     setup: Setup,
     table: &[u8],
     values: &mut [u32],
-    old: &[u32],
     control: Words,
     received: &[u8],
     reply: &mut [u8],
 ) -> Words {
-    let served = serve(setup, table, values, control, status(), received, reply);
-    let next = served.control;
-    let answer = served.answer;
-    print_setup(setup);
-    print_bytes(received, received.len());
-    print_answer(slave_answers::number_answer(answer), served.length);
-    print_bytes(&reply[..], served.length);
-    print_control(next);
-    print_changes(&values[..], old);
-    io::write_all(1, b"\n");
-    next
+    let answer = host_slave::serve(setup, table, values, control, STATUS, received, reply);
+    put_answer(answer, &reply[..]);
+    put_values(&values[..]);
+    answer.control
 }
 
 // On the drive's table, from its first values.
-fn ask_drive(setup: Setup, received: &[u8], reply: &mut [u8]) {
+fn ask_drive(setup: Setup, received: &[u8]) {
     let mut values = DRIVE_VALUES;
+    let mut reply = [0u8; 256];
+    call(setup, &DRIVE, &mut values, CONTROL, received, &mut reply);
+}
+
+// On the bench's table.
+fn ask_bench(setup: Setup, received: &[u8], left: Left) -> Left {
+    let mut values = left.values;
+    let mut reply = [0u8; 256];
+    let control = call(
+        setup,
+        &BENCH,
+        &mut values,
+        left.control,
+        received,
+        &mut reply,
+    );
+    Left { values, control }
+}
+
+// On so many bytes of the bench's table and so many of its first values, with a reply buffer of so many bytes.
+fn ask_short(setup: Setup, received: &[u8], bytes: usize, count: usize, room: usize)
+    requires { ⌜ bytes ≤ 96 ⌝ }
+    requires { ⌜ count ≤ 11 ⌝ }
+    requires { ⌜ room ≤ 256 ⌝ }
+{
+    let mut values = BENCH_VALUES;
+    let mut reply = [0u8; 256];
     call(
         setup,
-        &DRIVE,
-        &mut values,
-        &DRIVE_VALUES,
-        start_control(),
+        &BENCH[0..bytes],
+        &mut values[0..count],
+        CONTROL,
         received,
-        reply,
+        &mut reply[0..room],
     );
 }
 
-// The bench's first values.
-fn restore(values: &mut [u32]) {
-    for i in 0..11 {
-        if values.len() <= i {
-            return;
-        }
-        values[i] = BENCH_VALUES[i];
-    }
-}
-
-fn one_where(held: bool) -> usize
-    ensures { λ r. ⌜ r ≤ 1 ⌝ }
-{
-    if held { 1 } else { 0 }
-}
-
-// On the bench's table: t takes a byte from the table, v a value, r a byte of the reply buffer.
-fn ask_bench(
-    kind: u8,
-    setup: Setup,
-    received: &[u8],
-    values: &mut [u32],
-    reply: &mut [u8],
-    control: Words,
-) -> Words {
-    if values.len() < 11 {
-        return control;
-    }
-    if reply.len() < 256 {
-        return control;
-    }
-    let bytes = 96 - one_where(kind == 116);
-    let count = 11 - one_where(kind == 118);
-    let room = 256 - one_where(kind == 114);
-    call(
-        setup,
-        &BENCH[..bytes],
-        &mut values[..count],
-        &BENCH_VALUES,
-        control,
-        received,
-        &mut reply[..room],
-    )
-}
-
-// The call of a line's table.
-fn run_call(
-    kind: u8,
-    setup: Setup,
-    received: &[u8],
-    values: &mut [u32],
-    reply: &mut [u8],
-    control: Words,
-) -> Words {
+fn ask(kind: u8, setup: Setup, received: &[u8], left: Left) -> Left {
     match kind {
-        // d
-        100 => {
-            ask_drive(setup, received, reply);
-            control
-        }
-        // n
-        110 => ask_bench(kind, setup, received, values, reply, control),
-        // b, r, t, v
-        98 | 114 | 116 | 118 => {
-            restore(values);
-            ask_bench(kind, setup, received, values, reply, start_control())
-        }
-        _ => control,
+        0 => ask_drive(setup, received),
+        1 => return ask_bench(setup, received, FIRST),
+        2 => return ask_bench(setup, received, left),
+        3 => ask_short(setup, received, 95, 11, 256),
+        4 => ask_short(setup, received, 96, 10, 256),
+        _ => ask_short(setup, received, 96, 11, 255),
     }
+    left
 }
 
-fn read_setup(line: &[u8]) -> Setup {
-    if line.len() < 9 {
-        return Setup {
-            node: 0,
-            pkw: 0,
-            pzd: 0,
-        };
+// The call of a line's bytes.
+fn run(bytes: &[u8], left: Left) -> Left {
+    if bytes.len() < 4 {
+        return left;
     }
-    Setup {
-        node: digit(line[2]) * 10 + digit(line[3]),
-        pkw: digit(line[5]),
-        pzd: digit(line[7]),
-    }
+    let setup = Setup {
+        node: bytes[1],
+        pkw: bytes[2],
+        pzd: bytes[3],
+    };
+    ask(bytes[0], setup, &bytes[4..], left)
 }
 
-fn run_line(line: &[u8], values: &mut [u32], reply: &mut [u8], control: Words) -> Words {
-    if line.len() < 9 {
-        return control;
-    }
-    let mut bytes = [0u8; 300];
-    let n = read_bytes(&line[9..], &mut bytes);
-    if 300 < n {
-        return control;
-    }
-    run_call(
-        line[0],
-        read_setup(line),
-        &bytes[..n],
-        values,
-        reply,
-        control,
-    )
+fn run_line(line: &[u8], left: Left) -> Left {
+    io::write_all(1, line);
+    let mut bytes = [0u8; 304];
+    let n = read_bytes(line, &mut bytes);
+    run(&bytes[0..n], left)
 }
 
-fn run_lines(text: &[u8], values: &mut [u32], reply: &mut [u8]) {
-    let mut control = start_control();
+fn run_lines(text: &[u8]) {
+    let mut left = FIRST;
     let mut at = 0;
-    while at < text.len() {
-        let end = find_end(text, at);
-        if end < at {
-            return;
+    for i in 0..text.len() {
+        if text[i] == 10 {
+            if at <= i {
+                left = run_line(&text[at..i], left);
+            }
+            put(10);
+            at = i + 1;
         }
-        if text.len() < end {
-            return;
-        }
-        control = run_line(&text[at..end], values, reply, control);
-        at = end + 1;
     }
 }
 
 fn main() {
     let mut text = io::large_buffer();
     let n = io::read_full(0, &mut text);
-    let mut values = BENCH_VALUES;
-    let mut reply = [0u8; 256];
-    run_lines(&text[..n], &mut values, &mut reply);
+    run_lines(&text[..n]);
 }

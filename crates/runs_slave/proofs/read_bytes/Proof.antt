@@ -1,7 +1,8 @@
 -- `runs_slave::read_bytes` is well made: it ends, and keeps to what it was lent. Assumes nothing.
-use Prim.Native.Nat.{_-_, _≤_}
+use Prim.Native.Nat.{_-_, _≤_, _+_}
 use mathlib.Core.Path.{_≡_}
 use lib.ListN.{length}
+use native.Mathlib.Omega.{arith}
 use borrow.Author.Needs.{needs}
 use Rattle.runs_slave.proofs.read_bytes.Statement.{statement}
 use Rattle.runs_slave.proofs.read_bytes.Tie as tie
@@ -10,10 +11,10 @@ use Rattle.runs_slave.proofs.read_bytes.Lts as lts
 use Rattle.runs_slave.proofs.byte_of.Reads as byte-of-reads
 
 abbrev Inv-loop : tie.InvT-loop
-Inv-loop text out₀ i₀ n₀ out i n = (i ≤ length text) × (length out ≡ length out₀)
+Inv-loop line out₀ i₀ n₀ out i n = (length out ≡ length out₀) × ((n ≤ length out₀) × (i ≤ length line + 2))
 
 abbrev μ-loop : tie.MeasureT-loop
-μ-loop text out₀ i₀ n₀ out i n = length text - i
+μ-loop line out₀ i₀ n₀ out i n = length line - i
 
 loop-holds : tie.Need-loop-holds Inv-loop μ-loop
 loop-holds c = search needs
@@ -61,7 +62,7 @@ loop-less : tie.Need-loop-less Inv-loop μ-loop
 loop-less c = search needs
 
 loop-again : tie.Need-loop-again Inv-loop μ-loop
-loop-again c = search needs
+loop-again c = (search needs, (omega arith, omega arith))
 
 same-length-3 : tie.Need-same-length-3 Inv-loop μ-loop
 same-length-3 c = search needs
