@@ -5,6 +5,12 @@ use opening::Opening;
 use opening::open;
 use setup::Setup;
 
+const USUAL: Setup = Setup {
+    node: 3,
+    pkw: 4,
+    pzd: 2,
+};
+
 fn answer_number(answer: Opening) -> u32 {
     match answer {
         Opening::Passed => 0,
@@ -17,13 +23,7 @@ fn show(answer: Opening) {
     io::print_decimal(1, answer_number(answer) as u64);
 }
 
-fn usual() -> Setup {
-    Setup {
-        node: 3,
-        pkw: 4,
-        pzd: 2,
-    }
-}
+// ---- tables
 
 // The first 32 bits of a record.
 fn head(number: u16, kind: u16, elements: u16) -> u32 {
@@ -33,32 +33,54 @@ fn head(number: u16, kind: u16, elements: u16) -> u32 {
 }
 
 fn put_double(t: &mut [u8], at: usize, x: u32) {
-    if t.len() < 4 {
-        return;
-    }
-    if t.len() - 4 < at {
-        return;
-    }
-    t[at] = (x / 16777216) as u8;
-    t[at + 1] = (x / 65536 % 256) as u8;
-    t[at + 2] = (x / 256 % 256) as u8;
-    t[at + 3] = (x % 256) as u8;
+    let bytes = [
+        (x / 16777216) as u8,
+        (x / 65536 % 256) as u8,
+        (x / 256 % 256) as u8,
+        (x % 256) as u8,
+    ];
+    store::put(t, at, &bytes);
 }
 
-fn put_record(t: &mut [u8], k: usize, first: u32, minimum: u32, maximum: u32) {
-    if 512 < k {
+fn put_record(t: &mut [u8], k: u16, first: u32, minimum: u32, maximum: u32) {
+    let at = (k as usize) * 12;
+    put_double(t, at, first);
+    put_double(t, at + 4, minimum);
+    put_double(t, at + 8, maximum);
+}
+
+// Two records, each 0 to 10.
+fn put_pair(t: &mut [u8], first: u32, second: u32) {
+    put_record(t, 0, first, 0, 10);
+    put_record(t, 1, second, 0, 10);
+}
+
+// Records 0 to n - 1, each with so many elements, and record n with others.
+fn put_records(t: &mut [u8], n: u16, elements: u16, last: u16) {
+    for k in 0..n {
+        put_record(t, k, head(k, 1, elements), 0, 10);
+    }
+    put_record(t, n, head(n, 1, last), 0, 10);
+}
+
+// ---- cases
+
+// The first bytes of a table, the first of the values.
+fn check(setup: Setup, t: &[u8], length: usize, values: &[u32], count: usize, room: usize) {
+    if t.len() < length {
         return;
     }
-    put_double(t, 12 * k, first);
-    put_double(t, 12 * k + 4, minimum);
-    put_double(t, 12 * k + 8, maximum);
+    if values.len() < count {
+        return;
+    }
+    let answer = open(setup, &t[0..length], &values[0..count], room);
+    show(answer);
 }
 
 // One set-up, no record, no value.
 fn configure(node: u8, pkw: u8, pzd: u8) {
     let values = [0u32; 1];
-    let answer = open(Setup { node, pkw, pzd }, b"", &values[..0], 256);
-    show(answer);
+    check(Setup { node, pkw, pzd }, b"", 0, &values, 0, 256);
 }
 
 // One record of a kind, with its limits and its value.
@@ -66,39 +88,24 @@ fn limit(kind: u16, minimum: u32, maximum: u32, value: u32) {
     let mut t = [0u8; 12];
     put_record(&mut t, 0, head(1082, kind, 0), minimum, maximum);
     let values = [value; 1];
-    let answer = open(usual(), &t, &values, 256);
-    show(answer);
+    check(USUAL, &t, 12, &values, 1, 256);
 }
 
-// Two records, 0 to 10 the first, and two values, 0 the second; a buffer of `room` bytes.
+// Two records, each 0 to 10, and two values, 0 the second; a buffer of `room` bytes.
 fn pair(first: u32, second: u32, value: u32, room: usize) {
     let mut t = [0u8; 24];
-    put_record(&mut t, 0, first, 0, 10);
-    put_record(&mut t, 1, second, 0, 10);
+    put_pair(&mut t, first, second);
     let mut values = [0u32; 2];
     values[0] = value;
-    let answer = open(usual(), &t, &values, room);
-    show(answer);
+    check(USUAL, &t, 24, &values, 2, room);
 }
 
-// The first bytes of a table, the first of the values.
-fn check(t: &[u8], values: &[u32], length: usize, count: usize) {
-    if t.len() < length {
-        return;
-    }
-    if values.len() < count {
-        return;
-    }
-    let answer = open(usual(), &t[..length], &values[..count], 256);
-    show(answer);
-}
-
-// Records 0 to n - 1, each with so many elements, and record n with others.
-fn put_records(t: &mut [u8], n: u16, elements: u16, last: u16) {
-    for k in 0..n {
-        put_record(t, k as usize, head(k, 1, elements), 0, 10);
-    }
-    put_record(t, n as usize, head(n, 1, last), 0, 10);
+// So many bytes of a table with records 0 to n, and so many values.
+fn count(n: u16, elements: u16, last: u16, length: usize, count: usize) {
+    let mut t = [0u8; 6156];
+    let values = [0u32; 4098];
+    put_records(&mut t, n, elements, last);
+    check(USUAL, &t, length, &values, count, 256);
 }
 
 fn main() {
@@ -189,28 +196,21 @@ fn run_order() {
 // No record, with no value and with one; one record; 11 and 13 bytes.
 fn run_lengths() {
     io::write_all(1, b"\nlengths:");
-    let t = [0u8; 24];
-    let values = [0u32; 2];
-    check(&t, &values, 0, 0);
-    check(&t, &values, 0, 1);
-    check(&t, &values, 12, 1);
-    check(&t, &values, 11, 1);
-    check(&t, &values, 13, 1);
+    count(2, 0, 0, 0, 0);
+    count(2, 0, 0, 0, 1);
+    count(2, 0, 0, 12, 1);
+    count(2, 0, 0, 11, 1);
+    count(2, 0, 0, 13, 1);
 }
 
 // 512 and 513 records; 4096 places with 4096, 4095 and 4097 values; 4097 places.
 fn run_counts() {
     io::write_all(1, b"\ncounts:");
-    let mut t = [0u8; 6156];
-    let values = [0u32; 4098];
-    put_records(&mut t, 512, 0, 0);
-    check(&t, &values, 6144, 512);
-    check(&t, &values, 6156, 513);
-    put_records(&mut t, 16, 254, 32);
-    check(&t, &values, 204, 4096);
-    check(&t, &values, 204, 4095);
-    check(&t, &values, 204, 4097);
-    put_records(&mut t, 16, 254, 33);
-    check(&t, &values, 204, 4097);
+    count(512, 0, 0, 6144, 512);
+    count(512, 0, 0, 6156, 513);
+    count(16, 254, 32, 204, 4096);
+    count(16, 254, 32, 204, 4095);
+    count(16, 254, 32, 204, 4097);
+    count(16, 254, 33, 204, 4097);
     io::write_all(1, b"\n");
 }

@@ -1,8 +1,8 @@
 -- `runs_opening::put_records` is well made: it ends, and keeps to what it was lent. Assumes nothing.
 use Prim.Native.Nat.{_-_, _≤_}
 use mathlib.Core.Path.{_≡_}
-use borrow.Author.Needs.{needs}
 use lib.ListN.{length}
+use borrow.Author.Needs.{needs}
 use Rattle.runs_opening.proofs.put_records.Statement.{statement}
 use Rattle.runs_opening.proofs.put_records.Tie as tie
 use Rattle.runs_opening.proofs.put_records.Reads as reads
@@ -18,9 +18,6 @@ abbrev μ-loop : tie.MeasureT-loop
 
 loop-holds : tie.Need-loop-holds Inv-loop μ-loop
 loop-holds c = search needs
-
-cast-put-record : tie.Need-cast-put-record Inv-loop μ-loop
-cast-put-record c = search needs
 
 head-requires : tie.Need-head-requires Inv-loop μ-loop
 head-requires c κs = search needs
@@ -56,7 +53,6 @@ put-records-spec =
     Inv-loop
     μ-loop
     loop-holds
-    cast-put-record
     head-requires
     put-record-requires
     add-k
