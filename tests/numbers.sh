@@ -3,8 +3,8 @@
 # name, number and meaning of each. README.md and docs/PROTOCOL.md: every one has a row with the same number, names and meaning, and there
 # is no other. The definitions in crates/*/specs: the numbers of all definitions NAMENumber over an enum are those of the enums, and no
 # other. The order in which they are tested, by the rows of the definitions, is that of docs/PROTOCOL.md's tables and of each line
-# "Numbers, in test order" of docs/PROTOCOL.md, docs/CALLS.md and include/uss.h. docs/PROTOCOL.md's pages and tasks are those of the
-# definitions. Exits 1 where one of these does not hold.
+# "Numbers, in test order" of docs/PROTOCOL.md, docs/CALLS.md and include/uss.h. docs/PROTOCOL.md's pages, tasks and worked telegrams are
+# those of the definitions. Exits 1 where one of these does not hold.
 set -euo pipefail
 cd "$(dirname "$(readlink -f "${BASH_SOURCE[0]}")")/.."
 if ! command -v python3 > /dev/null; then
@@ -203,7 +203,22 @@ for task, row in enumerate(TASKS):
     same(f"docs/PROTOCOL.md: task {task}", written.get(task), task_row(*row))
 same("docs/PROTOCOL.md: tasks", sorted(written), list(range(len(TASKS))))
 
+# ---- docs/PROTOCOL.md: the telegram byte by byte
+
+
+def telegram_of(name):
+    """The bytes of a known telegram; K2 has its own LGE and last byte."""
+    text = body_of("claims_known", "Telegrams", name).replace("lge", "0x0E").replace("last", "0x7A")
+    return [int(byte, 16) for byte in re.findall(r"0x(\w\w)\b", text)]
+
+
+section = protocol[protocol.index("\n## A telegram byte by byte\n"):protocol.index("\n## Known telegrams\n")]
+cells = re.findall(r"^\| [\d, ]+ \| [\w ]+ \| `([^`]*)` \| [^|]*\| `([^`]*)` \|", section, re.M)
+for name, column in (("task1082", [task for task, _ in cells]), ("value1082", [reply for _, reply in cells]),
+                     ("error1082", re.findall(r"`(02 0E [0-9A-F ]*)`", section))):
+    same(f"docs/PROTOCOL.md: the bytes of {name}", [int(byte, 16) for byte in " ".join(column).split()], telegram_of(name))
+
 print(f"numbers: {len(ANSWERS)} answer numbers, {len(ERRORS)} parameter errors, {len(TASKS)} tasks, {len(pages)} pages; "
-      f"{len(DEFINED)} definitions, 3 orders")
+      f"{len(DEFINED)} definitions, 3 orders, 3 telegrams")
 sys.exit(failed)
 PYTHON
