@@ -33,10 +33,10 @@ extern "C" {
 /* A record of the parameter table has this many bytes; a table has at most 512 records and 4096 values. */
 #define USS_RECORD 12
 
-/* ---- answer numbers */
+/* ---- answer numbers: when each is given. Their order is with the calls; docs/PROTOCOL.md, Answer numbers, has the whole */
 
 enum uss_number {
-    USS_REPLIED = 0,         /* slave: a reply was written. build: the telegram was written. read: the reply was read */
+    USS_REPLIED = 0,         /* slave: a reply was written; build: the telegram was written; read: the reply was read */
     USS_MIRRORED = 1,        /* slave: the telegram itself is the reply */
     USS_TAKEN = 2,           /* slave: a broadcast was taken; there is no reply */
 
@@ -62,12 +62,12 @@ enum uss_number {
 };
 #define USS_DONE USS_REPLIED
 
-/* ---- parameter errors: the value of a reply with ID 7 */
+/* ---- parameter errors: the value of a reply with ID 7; docs/PROTOCOL.md, Parameter errors, has their order */
 
 enum uss_error {
-    USS_NO_PARAMETER = 0,    /* no such parameter */
-    USS_NOT_WRITABLE = 1,
-    USS_OUTSIDE_LIMITS = 2,
+    USS_NO_PARAMETER = 0,    /* no such parameter, or a base over 1999 */
+    USS_NOT_WRITABLE = 1,    /* parameter not writable */
+    USS_OUTSIDE_LIMITS = 2,  /* value outside the limits */
     USS_NO_ELEMENT = 3,      /* array, and index not below its element count */
     USS_NO_ARRAY = 4,        /* not an array, and index over 1 */
     USS_OTHER_WIDTH = 5,     /* word task on a double parameter, or the reverse */
@@ -75,7 +75,7 @@ enum uss_error {
     USS_NO_SUCH_TASK = 106   /* task 4, 5, 10 or 15 */
 };
 
-/* ---- task and reply IDs */
+/* ---- task and reply IDs; docs/PROTOCOL.md, Tasks, has what each does */
 
 enum uss_task {
     USS_TASK_NONE = 0,
@@ -133,6 +133,7 @@ typedef struct {
  * table   records of 12 bytes, numbers rising. Bytes 0 to 3, most significant bit first: number 15 bits, double 1, signed 1,
  *         writable 1, elements 8 (0 = no array), spare 6 (zero). Bytes 4 to 7 minimum, 8 to 11 maximum, high byte first.
  *         A word's limits and values sit in the low 16 bits, upper half zero; a signed word's -100 is 0x0000FF9C.
+ *         docs/PROTOCOL.md, Parameter table, has a picture and every rule.
  * values  one number for each element (one where there is no array), in record order.
  * control the control words as they stand; keep what the answer gives back, whatever its number is.
  * status  what the reply carries as process words.

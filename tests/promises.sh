@@ -2,9 +2,10 @@
 # Compares the pages with the sources. docs/PROMISES.md: no public function has a `requires`; every one has a row, with at least two
 # must-fail edits of its own crate (an `extern "C"` function, which hands on to another, at least one) and its own instances of
 # claims_results, one for the result and one for each slice lent for writing; every row names a function, and every edit of the
-# repository is named on the page, says in its second line at which fact it fails, and changes no proof. docs/PROMISES.md,
-# docs/DECISIONS.md, docs/DAMAGE.md and docs/HOUSE.md: each name that is given with its crate and file stands there. Exits 1 where
-# one of these does not hold.
+# repository is named on the page, says in its second line at which fact it fails, and changes no proof. docs/PROTOCOL.md,
+# docs/PROMISES.md, docs/DECISIONS.md, docs/DAMAGE.md, docs/HOUSE.md and CONTRIBUTING.md: each name that is given with its crate and
+# file stands there. Every page: a link leads to a file of the repository, and to a heading of it where it names one; "docs/PROTOCOL.md,
+# Section" names a section of it. Exits 1 where one of these does not hold.
 set -euo pipefail
 cd "$(dirname "$0")/.."
 page=docs/PROMISES.md
@@ -132,7 +133,7 @@ stands() {
 }
 
 named=0
-for text in docs/PROMISES.md docs/DECISIONS.md docs/DAMAGE.md docs/HOUSE.md; do
+for text in docs/PROTOCOL.md docs/PROMISES.md docs/DECISIONS.md docs/DAMAGE.md docs/HOUSE.md CONTRIBUTING.md; do
     while read -r crate file names; do
         for name in $names; do
             named=$((named + 1))
@@ -140,5 +141,31 @@ for text in docs/PROMISES.md docs/DECISIONS.md docs/DAMAGE.md docs/HOUSE.md; do
         done
     done < <(places "$text")
 done
-echo "promises: $(wc -l <<<"$functions") public functions, $rows rows, $edits must-fail edits, $named names with their places"
+
+# anchors PAGE: the headings of a page as links name them
+anchors() {
+    sed -nE 's/^#+ //p' "$1" | tr 'A-Z ' 'a-z-' | tr -cd 'a-z0-9_\n-'
+}
+
+links=0
+for text in README.md CONTRIBUTING.md docs/*.md; do
+    for link in $(grep -oE '\]\([^) ]+\)' "$text" | sed -E 's/^..//; s/.$//; /^https?:/d'); do
+        links=$((links + 1))
+        goal="$text"
+        [ -z "${link%%#*}" ] || goal="$(dirname "$text")/${link%%#*}"
+        if [ ! -e "$goal" ]; then
+            wrong "$text: there is no $link"
+        elif [[ "$link" == *#* ]]; then
+            anchors "$goal" | grep -xF -- "${link#*#}" > /dev/null || wrong "$text: no heading for $link"
+        fi
+    done
+done
+sections="$(sed -n 's/^## //p' docs/PROTOCOL.md | paste -sd'|')"
+for text in README.md CONTRIBUTING.md docs/*.md include/uss.h; do
+    while read -r place; do
+        links=$((links + 1))
+        grep -qE "^docs/PROTOCOL.md, ($sections)( |\$)" <<<"$place" || wrong "$text: no section for $place"
+    done < <(tr -s '\n *' ' ' < "$text" | grep -oE 'docs/PROTOCOL\.md, [A-Z][a-z]+( [a-z]+)*')
+done
+echo "promises: $(wc -l <<<"$functions") public functions, $rows rows, $edits must-fail edits, $named names with their places, $links links"
 exit "$failed"
