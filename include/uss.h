@@ -5,7 +5,7 @@
  *
  * What holds of every call, for any input:
  *   - it returns; it keeps no state, takes no memory and calls nothing else, so calls on different data may run at once;
- *   - it reads only the bytes lent to it, and writes only what is named below;
+ *   - it reads only the bytes lent to it, and writes only what its own text names;
  *   - a refusal (a number of 10 and more) writes nothing, reports length 0, and gives back the control words it was given.
  *
  * What the caller owes: each pointer is valid for its count of elements for the time of the call, and properly aligned;
@@ -25,6 +25,13 @@
 #ifdef __cplusplus
 extern "C" {
 #endif
+
+/* The version of this header and of the archive that comes with it; the text says the three numbers. CHANGELOG.md says what a
+ * step of each number means. */
+#define USS_VERSION_MAJOR 0
+#define USS_VERSION_MINOR 1
+#define USS_VERSION_PATCH 0
+#define USS_VERSION "0.1.0"
 
 /* A buffer for a reply or a built telegram has at least this many bytes, however short the telegram is. */
 #define USS_BUFFER 256
@@ -75,7 +82,7 @@ enum uss_error {
     USS_NO_SUCH_TASK = 106   /* task 4, 5, 10 or 15 */
 };
 
-/* ---- task and reply IDs; docs/PROTOCOL.md, Tasks, has what each does */
+/* ---- task IDs; docs/PROTOCOL.md, Tasks, has what each does */
 
 enum uss_task {
     USS_TASK_NONE = 0,
@@ -87,6 +94,8 @@ enum uss_task {
     USS_CHANGE_ELEMENT_DOUBLE = 8, /* 11 asks for saving too */
     USS_COUNT_ELEMENTS = 9
 };
+
+/* ---- reply IDs */
 
 enum uss_reply_id {
     USS_ID_NONE = 0,           /* answer to task 0, or no parameter area */
@@ -130,15 +139,23 @@ typedef struct {
 
 /* ---- the slave
  *
- * table   records of 12 bytes, numbers rising. Bytes 0 to 3, most significant bit first: number 15 bits, double 1, signed 1,
- *         writable 1, elements 8 (0 = no array), spare 6 (zero). Bytes 4 to 7 minimum, 8 to 11 maximum, high byte first.
- *         A word's limits and values sit in the low 16 bits, upper half zero; a signed word's -100 is 0x0000FF9C.
- *         docs/PROTOCOL.md, Parameter table, has a picture and every rule.
- * values  one number for each element (one where there is no array), in record order.
- * control the control words as they stand; keep what the answer gives back, whatever its number is.
- * status  what the reply carries as process words.
+ * table     records of 12 bytes, numbers rising. Bytes 0 to 3, most significant bit first: number 15 bits, double 1, signed 1,
+ *           writable 1, elements 8 (0 = no array), spare 6 (zero). Bytes 4 to 7 minimum, 8 to 11 maximum, high byte first.
+ *           A word's limits and values sit in the low 16 bits, upper half zero; a signed word's -100 is 0x0000FF9C.
+ *           docs/PROTOCOL.md, Parameter table, has a picture and every rule.
+ * values    one number for each element (one where there is no array), in record order.
+ */
+
+/* Serves one received page: checks it, runs its task on the values, takes its process words and writes the reply.
+ *
+ * setup     this drive's node, and the words of its two areas.
+ * control   the control words as they stand; keep what the answer gives back, whatever its number is.
+ * status    what the reply carries as process words.
+ * received  the bytes between two pauses on the line, as they came.
+ * reply     the buffer for the reply, USS_BUFFER bytes or more.
  *
  * Numbers in test order: 20 21 22 23, 10 11 12 13 14 15, 16 17 18, then 0, 1 or 2. All of 20 to 23 are tested at each call.
+ *
  * Answer 0 writes the reply's bytes at the start of `reply` and leaves the rest; a change writes one place of `values`. A
  * reply may carry a parameter error: it is a reply like any other. Answer 1 writes the received bytes to `reply`. Answer 2
  * and every refusal write nothing.
@@ -149,33 +166,57 @@ uss_answer uss_slave(uss_setup setup, const uint8_t *table, size_t table_len, ui
 
 /* ---- the master
  *
+ * setup      node of the drive that is spoken to, and the words of the two areas, as the drive has them.
+ * task       what is asked: one of enum uss_task.
+ * parameter  the parameter's number.
+ * index      the element of an array, counted from 0.
+ * value      the new value of a change, as bits: a signed word's -100 is 0xFF9C. 0 where nothing is changed.
+ * process    the process words; those past PZD are 0.
+ * out        the buffer for the telegram, USS_BUFFER bytes or more.
+ *
  * Numbers in test order: 30 31 32, then 0 with the telegram's bytes at the start of `out`, the rest left as it is.
  */
 
-/* A task. Can be asked: task 0 with parameter, index and value 0; or, with an area, task 1-3, 6-9, 11-14, parameter at most
- * 31999, index at most 254, value 0 for tasks 1, 6, 9 and at most 65535 for word changes, no double change in three words.
- * Process words past PZD are 0. Else 31. */
+/* Builds the telegram of a task. Can be asked: task 0 with parameter, index and value 0; or, with an area, task 1-3, 6-9, 11-14,
+ * parameter at most 31999, index at most 254, value 0 for tasks 1, 6, 9 and at most 65535 for word changes, no double change in
+ * three words. Process words past PZD are 0. Else 31. */
 uss_built uss_build_task(uss_setup setup, uint8_t task, uint16_t parameter, uint8_t index, uint32_t value,
                          uss_words process, uint8_t *out, size_t out_len);
 
-/* A mirror telegram of 1 to 252 net bytes; else 31. The node answers with the same bytes: compare them. */
+/* Builds a mirror telegram. The node answers with the same bytes: compare them; uss_read_reply does not take them.
+ *
+ * net        the net bytes, 1 to 252; else 31.
+ */
 uss_built uss_build_mirror(uss_setup setup, const uint8_t *net, size_t net_len, uint8_t *out, size_t out_len);
 
-/* A broadcast to all nodes. Selector bit 1 selects the first process word, bit 2 the second; the masks say which of their
- * bits are taken. 31 where it is void: PKW or PZD 0, the first word not selected, no bit 10 in mask1 or process.w1, a
- * selector bit for another word or one not configured; also where a process word past PZD is not 0. */
+/* Builds a broadcast to all nodes. Its address byte is 0x20, whatever the set-up's node is; no drive answers. 31 where it is void:
+ * PKW or PZD 0, the first word not selected, no bit 10 in mask1 or process.w1, a selector bit for another word or one not
+ * configured; also where a process word past PZD is not 0.
+ *
+ * selector   bit 1 selects the first process word, bit 2 the second.
+ * mask1      which bits of the first word are taken; the drives keep the others.
+ * mask2      the same of the second word.
+ */
 uss_built uss_build_broadcast(uss_setup setup, uint16_t selector, uint16_t mask1, uint16_t mask2,
                               uss_words process, uint8_t *out, size_t out_len);
 
-/* Reads the reply to a task; give the task as it was built. Writes nothing.
- * Numbers in test order: 30 31, 10 11 12 13 14 15, 16 17, 33, then 0. A value is returned without its sign. */
+/* Reads the reply to a task. Give set-up, task, parameter, index, value and process words as the task was built. Writes nothing.
+ *
+ * received   the bytes that came from the line.
+ *
+ * Numbers in test order: 30 31, 10 11 12 13 14 15, 16 17, 33, then 0. A value is returned without its sign.
+ */
 uss_reply uss_read_reply(uss_setup setup, uint8_t task, uint16_t parameter, uint8_t index, uint32_t value,
                          uss_words process, const uint8_t *received, size_t received_len);
 
 /* ---- bytes */
 
-/* Writes a text that describes the first 300 received bytes to the start of `out`, with no 0 byte behind it, and returns its
- * length, at most 64. Where `out` is too short it writes nothing and returns 0. */
+/* Lists received bytes: writes a text that describes the first 300 of them to the start of `out`, with no 0 byte behind it, and
+ * returns its length, at most 64. Where `out` is too short it writes nothing and returns 0.
+ *
+ * received  the bytes as they came.
+ * out       the buffer for the text; USS_LISTING bytes are always enough.
+ */
 uint32_t uss_list(const uint8_t *received, size_t received_len, uint8_t *out, size_t out_len);
 
 /* The XOR of all bytes; 0 of none. BCC is that of all bytes before it, the 02 included. */

@@ -40,7 +40,7 @@ class Reader:
             raise Refused(f"{self.path}:{number}: not understood: {text.strip()}")
 
     def directive(self, number, line):
-        known = r"#(ifndef USS_H|define USS_\w+( \w+)?|include <std(def|int)\.h>|ifdef __cplusplus|endif)\s*"
+        known = r'#(ifndef USS_H|define USS_\w+( \w+| "[0-9.]+")?|include <std(def|int)\.h>|ifdef __cplusplus|endif)\s*'
         if not re.fullmatch(known, line):
             raise Refused(f"{self.path}:{number}: not understood: {line}")
 

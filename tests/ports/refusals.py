@@ -82,6 +82,7 @@ HEADERS = [  # what is replaced in uss.h, and by what
     ("an array as a field", "uint32_t number, id, value;", "uint32_t number, id, value[2];"),
     ("a field of some bits", "uint8_t node, pkw, pzd;", "uint8_t node : 5, pkw, pzd;"),
     ("a packed struct", "} uss_reply;", "} __attribute__((packed)) uss_reply;"),
+    ("a macro with another text", "#define USS_BUFFER 256", '#define USS_BUFFER "256 bytes"'),
     ("a macro with parameters", "#define USS_BUFFER 256", "#define USS_BUFFER(n) 256"),
     ("an include of something else", "#include <stdint.h>", "#include <stdio.h>"),
     ("a condition", "#define USS_BUFFER 256", "#if USS_SMALL"),

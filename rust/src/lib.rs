@@ -1,0 +1,333 @@
+//! A USS slave and master for drives: safe functions over the archive `libuss_c.a`, in which every call is proved to meet its contract
+//! for any input (docs/PROMISES.md of the repository). No heap, no state, no dependency.
+//!
+//! The calls are those of `include/uss.h`; what C returns as a number is an enum here, and what C writes to a buffer comes back as the
+//! part of the buffer that was written. Slices carry their count, and a slice that is lent for writing overlaps nothing else: a caller in
+//! Rust owes nothing more.
+//!
+//! Where the archive is looked for: in the folder that the environment variable `USS_LIB_DIR` names, when the crate is built; else
+//! where `rt staticlib uss_c` (x86-64) or `ports/build` (other chips) of the repository writes the one of the target.
+//!
+//! # A master and a drive
+//!
+//! ```
+//! use uss::{Content, Request, Setup, Task, Words};
+//!
+//! let setup = Setup { node: 3, pkw: 4, pzd: 2 };
+//! // the master asks for parameter 1082; bit 10 of the first process word says that the drive takes them
+//! let request = Request {
+//!     task: Task::Read,
+//!     parameter: 1082,
+//!     process: Words { w1: 0x047F, w2: 0x2000, ..Words::default() },
+//!     ..Request::default()
+//! };
+//! let mut out = [0; uss::BUFFER];
+//! let telegram = uss::build_task(setup, request, &mut out).unwrap();
+//!
+//! // the drive has one parameter: 1082, a word, writable, 0 to 65000
+//! let table = [0x08, 0x74, 0x40, 0x00, 0, 0, 0, 0, 0, 0, 0xFD, 0xE8];
+//! let mut values = [5000];
+//! let status = Words { w1: 0x0331, w2: 0x2000, ..Words::default() };
+//! let mut buffer = [0; uss::BUFFER];
+//! let served = uss::serve(setup, &table, &mut values, Words::default(), status, telegram, &mut buffer);
+//! assert_eq!(served.control.w1, 0x047F);
+//!
+//! // and the master reads what it says
+//! let reply = served.answer.reply().unwrap();
+//! let read = uss::read_reply(setup, request, reply).unwrap();
+//! assert_eq!(read.content, Content::Word(5000));
+//! assert_eq!(read.process, status);
+//! ```
+#![no_std]
+#![deny(missing_docs)]
+
+mod numbers;
+mod raw;
+
+pub use numbers::{Content, ParameterError, Refusal, Task};
+
+/// A buffer for a reply or a built telegram has at least this many bytes, however short the telegram is.
+pub const BUFFER: usize = 256;
+/// A buffer of this many bytes takes every listing.
+pub const LISTING: usize = 64;
+/// A record of the parameter table has this many bytes.
+pub const RECORD: usize = 12;
+
+/// A node and the words of its two areas.
+#[repr(C)]
+#[derive(Clone, Copy, Debug, PartialEq, Eq, Hash)]
+pub struct Setup {
+    /// The node, 0 to 31.
+    pub node: u8,
+    /// Words of the parameter area: 0, 3 or 4.
+    pub pkw: u8,
+    /// Words of the process area: 0 to 4; not both 0.
+    pub pzd: u8,
+}
+
+/// Control, status or process words.
+#[repr(C)]
+#[derive(Clone, Copy, Debug, Default, PartialEq, Eq, Hash)]
+pub struct Words {
+    /// The first word.
+    pub w1: u16,
+    /// The second word.
+    pub w2: u16,
+    /// The third word.
+    pub w3: u16,
+    /// The fourth word.
+    pub w4: u16,
+}
+
+/// A slave call's answer.
+#[derive(Clone, Copy, Debug, PartialEq, Eq)]
+#[must_use]
+pub enum Answer<'a> {
+    /// A reply was written: send these bytes. It may carry a parameter error.
+    Replied(&'a [u8]),
+    /// The telegram itself is the reply: send these bytes.
+    Mirrored(&'a [u8]),
+    /// A broadcast was taken: send nothing, act on the control words.
+    Taken,
+    /// Nothing was done: send nothing.
+    Refused(Refusal),
+}
+
+impl<'a> Answer<'a> {
+    /// The bytes to send, where there are any.
+    pub fn reply(self) -> Option<&'a [u8]> {
+        match self {
+            Answer::Replied(bytes) | Answer::Mirrored(bytes) => Some(bytes),
+            Answer::Taken | Answer::Refused(_) => None,
+        }
+    }
+}
+
+/// What a slave call leaves: its answer, and the control words from now on, whatever the answer is.
+#[derive(Clone, Copy, Debug, PartialEq, Eq)]
+#[must_use]
+pub struct Served<'a> {
+    /// The answer.
+    pub answer: Answer<'a>,
+    /// The control words to keep.
+    pub control: Words,
+}
+
+/// A task of a master, as it is built and as its reply is read. The default is task 0 with process words 0.
+#[derive(Clone, Copy, Debug, Default, PartialEq, Eq, Hash)]
+pub struct Request {
+    /// What is asked.
+    pub task: Task,
+    /// The parameter's number, at most 31999.
+    pub parameter: u16,
+    /// The element of an array, counted from 0, at most 254.
+    pub index: u8,
+    /// The new value of a change, as bits; else 0.
+    pub value: u32,
+    /// The process words; those past PZD are 0.
+    pub process: Words,
+}
+
+/// A reply that was read.
+#[derive(Clone, Copy, Debug, PartialEq, Eq, Hash)]
+pub struct Reply {
+    /// What it says of the parameter.
+    pub content: Content,
+    /// Its process words, 0 past PZD.
+    pub process: Words,
+}
+
+/// The first bytes of a buffer, as many as a call says that it has written. No call says more than the buffer has; of an archive that
+/// did, nothing would be taken.
+fn written(buffer: &[u8], length: u32) -> &[u8] {
+    buffer.get(..length as usize).unwrap_or(&[])
+}
+
+/// The telegram that a build has written, or why there is none.
+fn telegram(built: raw::Built, out: &[u8]) -> Result<&[u8], Refusal> {
+    match built.number {
+        0 => Ok(written(out, built.length)),
+        number => Err(Refusal::from(number)),
+    }
+}
+
+/// Serves one received page: checks it, runs its task on the values, takes its process words and writes the reply.
+///
+/// `table` has records of 12 bytes, as `include/uss.h` says; `values` one number for each element, in record order; `control` are the
+/// control words as they stand, `status` what the reply carries as process words; `reply` has at least [`BUFFER`] bytes.
+///
+/// A refusal writes nothing and gives back the control words it was given. A reply writes only its own bytes, and a change one place
+/// of `values`.
+///
+/// ```
+/// use uss::{Answer, Refusal, Setup, Words};
+///
+/// let (setup, control) = (Setup { node: 3, pkw: 4, pzd: 2 }, Words { w1: 0x047E, ..Words::default() });
+/// let mut reply = [0xAA; uss::BUFFER];
+/// // no bytes: this tests set-up, table, values and buffer, and `Short` means that all is well
+/// let served = uss::serve(setup, &[], &mut [], control, Words::default(), &[], &mut reply);
+/// assert_eq!(served.answer, Answer::Refused(Refusal::Short));
+/// assert_eq!(served.control, control);
+/// let served = uss::serve(setup, &[1], &mut [], control, Words::default(), &[], &mut reply);
+/// assert_eq!(served.answer, Answer::Refused(Refusal::BadTable));
+/// assert_eq!(reply, [0xAA; uss::BUFFER]);
+/// ```
+pub fn serve<'a>(
+    setup: Setup, table: &[u8], values: &mut [u32], control: Words, status: Words, received: &[u8], reply: &'a mut [u8],
+) -> Served<'a> {
+    // SAFETY: pointers and counts are those of four slices, of which those lent for writing overlap no other; the call takes any bytes,
+    // numbers and counts, and reads and writes only inside what is lent (docs/PROMISES.md, demand 1).
+    let a = unsafe {
+        raw::uss_slave(
+            setup, table.as_ptr(), table.len(), values.as_mut_ptr(), values.len(), control, status, received.as_ptr(),
+            received.len(), reply.as_mut_ptr(), reply.len(),
+        )
+    };
+    let answer = match a.number {
+        0 => Answer::Replied(written(reply, a.length)),
+        1 => Answer::Mirrored(written(reply, a.length)),
+        2 => Answer::Taken,
+        number => Answer::Refused(Refusal::from(number)),
+    };
+    Served { answer, control: a.control }
+}
+
+/// Builds the telegram of a task at the start of `out`, which has at least [`BUFFER`] bytes, and returns it.
+///
+/// `NotAskable` where no telegram says this request: docs/CALLS.md has the cases. A refusal writes nothing.
+///
+/// ```
+/// use uss::{Refusal, Request, Setup, Task};
+///
+/// let setup = Setup { node: 3, pkw: 4, pzd: 0 };
+/// let mut out = [0; uss::BUFFER];
+/// let save = Request { task: Task::SaveWord, parameter: 700, value: -100i16 as u16 as u32, ..Request::default() };
+/// assert_eq!(uss::build_task(setup, save, &mut out).unwrap(), [2, 10, 3, 0xE2, 0xBC, 0, 0, 0, 0, 0xFF, 0x9C, 0x36]);
+/// // a word has 16 bits
+/// let wide = Request { value: -100i32 as u32, ..save };
+/// assert_eq!(uss::build_task(setup, wide, &mut out), Err(Refusal::NotAskable));
+/// ```
+pub fn build_task(setup: Setup, request: Request, out: &mut [u8]) -> Result<&[u8], Refusal> {
+    let Request { task, parameter, index, value, process } = request;
+    // SAFETY: pointer and count are those of one slice, lent for writing; the call takes any numbers and any count, and writes only
+    // inside what is lent (docs/PROMISES.md, demand 1).
+    let built = unsafe { raw::uss_build_task(setup, task as u8, parameter, index, value, process, out.as_mut_ptr(), out.len()) };
+    telegram(built, out)
+}
+
+/// Builds a mirror telegram of 1 to 252 net bytes at the start of `out`, which has at least [`BUFFER`] bytes, and returns it.
+///
+/// The node answers with the same bytes: compare them. `NotAskable` for another count of net bytes. A refusal writes nothing.
+///
+/// ```
+/// use uss::{Answer, Setup, Words};
+///
+/// let setup = Setup { node: 3, pkw: 4, pzd: 2 };
+/// let (mut out, mut buffer) = ([0; uss::BUFFER], [0; uss::BUFFER]);
+/// let sent = uss::build_mirror(setup, b"here", &mut out).unwrap();
+/// let served = uss::serve(setup, &[], &mut [], Words::default(), Words::default(), sent, &mut buffer);
+/// assert_eq!(served.answer, Answer::Mirrored(sent));
+/// ```
+pub fn build_mirror<'a>(setup: Setup, net: &[u8], out: &'a mut [u8]) -> Result<&'a [u8], Refusal> {
+    // SAFETY: pointers and counts are those of two slices, and the one lent for writing does not overlap the other; the call takes any
+    // bytes and counts, and reads and writes only inside what is lent (docs/PROMISES.md, demand 1).
+    let built = unsafe { raw::uss_build_mirror(setup, net.as_ptr(), net.len(), out.as_mut_ptr(), out.len()) };
+    telegram(built, out)
+}
+
+/// Builds a broadcast to all nodes at the start of `out`, which has at least [`BUFFER`] bytes, and returns it. No drive answers.
+///
+/// Bit 1 of `selector` selects the first process word, bit 2 the second; the masks say which of their bits are taken. `NotAskable`
+/// where the broadcast is void: docs/CALLS.md has the cases. A refusal writes nothing.
+///
+/// ```
+/// use uss::{Answer, Setup, Words};
+///
+/// let setup = Setup { node: 3, pkw: 4, pzd: 2 };
+/// let process = Words { w1: 0x0401, w2: 0x2000, ..Words::default() };
+/// let (mut out, mut buffer) = ([0; uss::BUFFER], [0; uss::BUFFER]);
+/// let telegram = uss::build_broadcast(setup, 0x0006, 0x0401, 0x0000, process, &mut out).unwrap();
+/// // a drive takes the bits of the masks and keeps the others
+/// let control = Words { w1: 0x047E, w2: 0x1111, ..Words::default() };
+/// let served = uss::serve(setup, &[], &mut [], control, Words::default(), telegram, &mut buffer);
+/// assert_eq!(served.answer, Answer::Taken);
+/// assert_eq!(served.control, Words { w1: 0x047F, ..control });
+/// ```
+pub fn build_broadcast(
+    setup: Setup, selector: u16, mask1: u16, mask2: u16, process: Words, out: &mut [u8],
+) -> Result<&[u8], Refusal> {
+    // SAFETY: pointer and count are those of one slice, lent for writing; the call takes any numbers and any count, and writes only
+    // inside what is lent (docs/PROMISES.md, demand 1).
+    let built = unsafe { raw::uss_build_broadcast(setup, selector, mask1, mask2, process, out.as_mut_ptr(), out.len()) };
+    telegram(built, out)
+}
+
+/// Reads the reply to a task; give the request as it was built.
+///
+/// ```
+/// use uss::{Content, ParameterError, Refusal, Request, Setup, Task};
+///
+/// let setup = Setup { node: 3, pkw: 4, pzd: 2 };
+/// let request = Request { task: Task::Read, parameter: 1082, ..Request::default() };
+/// let mut reply = [2, 14, 3, 0x74, 0x3A, 0, 0, 0, 0, 0, 0, 0x03, 0x31, 0x20, 0x00, 0x53];
+/// let read = uss::read_reply(setup, request, &reply).unwrap();
+/// assert_eq!(read.content, Content::Error(ParameterError::NoParameter));
+/// assert_eq!(read.process.w1, 0x0331);
+/// // it is not taken for another parameter's, and damage is seen
+/// assert_eq!(uss::read_reply(setup, Request { parameter: 1083, ..request }, &reply), Err(Refusal::NotTheReply));
+/// reply[11] ^= 0x40;
+/// assert_eq!(uss::read_reply(setup, request, &reply), Err(Refusal::Check));
+/// ```
+pub fn read_reply(setup: Setup, request: Request, received: &[u8]) -> Result<Reply, Refusal> {
+    let Request { task, parameter, index, value, process } = request;
+    // SAFETY: pointer and count are those of one slice; the call takes any bytes, numbers and counts, reads only inside what is lent
+    // and writes nothing (docs/PROMISES.md, demand 1).
+    let r = unsafe { raw::uss_read_reply(setup, task as u8, parameter, index, value, process, received.as_ptr(), received.len()) };
+    match r.number {
+        0 => Ok(Reply { content: Content::of(r.id, r.value), process: r.process }),
+        number => Err(Refusal::from(number)),
+    }
+}
+
+/// Writes a text that describes the first 300 received bytes to the start of `out`, and returns it; none, and nothing written, where
+/// `out` is too short. [`LISTING`] bytes are always enough.
+///
+/// ```
+/// let bytes = [0x02, 0x07, 0x00, 0x04, 0x00, 0x21, 0x00, 0x1C, 0x3C];
+/// let mut out = [0; uss::LISTING];
+/// assert_eq!(uss::list(&bytes, &mut out), Some("telegram listing 1\nbytes 9 lge 7 node 0 normal\nbcc 60\n"));
+/// assert_eq!(uss::list(&bytes, &mut [0; 20]), None);
+/// ```
+pub fn list<'a>(received: &[u8], out: &'a mut [u8]) -> Option<&'a str> {
+    // SAFETY: pointers and counts are those of two slices, and the one lent for writing does not overlap the other; the call takes any
+    // bytes and counts, and reads and writes only inside what is lent (docs/PROMISES.md, demand 1).
+    let length = unsafe { raw::uss_list(received.as_ptr(), received.len(), out.as_mut_ptr(), out.len()) };
+    match length {
+        0 => None,
+        length => core::str::from_utf8(written(out, length)).ok(),
+    }
+}
+
+/// The XOR of all bytes; 0 of none. BCC is that of all bytes before it, the 02 included.
+///
+/// ```
+/// assert_eq!(uss::bcc(&[0x02, 0x07, 0x00, 0x04, 0x00, 0x21, 0x00, 0x1C]), 0x3C);
+/// ```
+pub fn bcc(bytes: &[u8]) -> u8 {
+    // SAFETY: pointer and count are those of one slice; the call takes any bytes and any count, reads only inside what is lent and
+    // writes nothing (docs/PROMISES.md, demand 1).
+    unsafe { raw::uss_bcc(bytes.as_ptr(), bytes.len()) }
+}
+
+#[cfg(test)]
+mod tests {
+    use super::*;
+
+    #[test]
+    fn no_more_is_taken_than_the_buffer_has() {
+        assert_eq!(written(&[1, 2, 3], 2), [1, 2]);
+        assert_eq!(written(&[1, 2, 3], 3), [1, 2, 3]);
+        assert_eq!(written(&[1, 2, 3], 4), []);
+        assert_eq!(written(&[], u32::MAX), []);
+    }
+}

@@ -1,0 +1,50 @@
+//! The calls of `include/uss.h`, and the structs that they return, as C has them.
+
+use crate::{Setup, Words};
+
+#[repr(C)]
+pub struct Answer {
+    pub number: u32,
+    pub length: u32,
+    pub control: Words,
+}
+
+#[repr(C)]
+pub struct Built {
+    pub number: u32,
+    pub length: u32,
+}
+
+#[repr(C)]
+pub struct Reply {
+    pub number: u32,
+    pub id: u32,
+    pub value: u32,
+    pub process: Words,
+}
+
+extern "C" {
+    pub fn uss_slave(
+        setup: Setup, table: *const u8, table_len: usize, values: *mut u32, value_count: usize, control: Words, status: Words,
+        received: *const u8, received_len: usize, reply: *mut u8, reply_len: usize,
+    ) -> Answer;
+    pub fn uss_build_task(
+        setup: Setup, task: u8, parameter: u16, index: u8, value: u32, process: Words, out: *mut u8, out_len: usize,
+    ) -> Built;
+    pub fn uss_build_mirror(setup: Setup, net: *const u8, net_len: usize, out: *mut u8, out_len: usize) -> Built;
+    pub fn uss_build_broadcast(
+        setup: Setup, selector: u16, mask1: u16, mask2: u16, process: Words, out: *mut u8, out_len: usize,
+    ) -> Built;
+    pub fn uss_read_reply(
+        setup: Setup, task: u8, parameter: u16, index: u8, value: u32, process: Words, received: *const u8, received_len: usize,
+    ) -> Reply;
+    pub fn uss_list(received: *const u8, received_len: usize, out: *mut u8, out_len: usize) -> u32;
+    pub fn uss_bcc(bytes: *const u8, len: usize) -> u8;
+}
+
+// The sizes that uss.h names; tests/header.rs compares calls and fields with it.
+const _: () = assert!(core::mem::size_of::<Setup>() == 3);
+const _: () = assert!(core::mem::size_of::<Words>() == 8);
+const _: () = assert!(core::mem::size_of::<Answer>() == 16);
+const _: () = assert!(core::mem::size_of::<Built>() == 8);
+const _: () = assert!(core::mem::size_of::<Reply>() == 20);

@@ -1,0 +1,146 @@
+//! Every call through the archive: what goes in comes out where it belongs, and a refusal leaves everything as it was.
+
+use uss::{Answer, Content, ParameterError, Refusal, Request, Setup, Task, Words};
+
+const SETUP: Setup = Setup { node: 3, pkw: 4, pzd: 4 };
+/// 700: a signed word, writable, -100 to 100. 701: a double, writable, two elements, any value.
+const TABLE: [u8; 2 * uss::RECORD] = [
+    0x05, 0x78, 0xC0, 0x00, 0, 0, 0xFF, 0x9C, 0, 0, 0, 100, //
+    0x05, 0x7B, 0x40, 0x80, 0, 0, 0, 0, 0xFF, 0xFF, 0xFF, 0xFF,
+];
+const STATUS: Words = Words { w1: 0x0331, w2: 0x0102, w3: 0x0304, w4: 0x0506 };
+/// Bit 10 of the first word is set.
+const PROCESS: Words = Words { w1: 0x047F, w2: 0x1112, w3: 0x1314, w4: 0x1516 };
+
+/// A whole round: built, served, read.
+fn round(task: Task, parameter: u16, index: u8, value: u32, values: &mut [u32]) -> Content {
+    let request = Request { task, parameter, index, value, process: PROCESS };
+    let (mut out, mut buffer) = ([0; uss::BUFFER], [0; uss::BUFFER]);
+    let telegram = uss::build_task(SETUP, request, &mut out).unwrap();
+    let (last, before) = telegram.split_last().unwrap();
+    assert_eq!(uss::bcc(before), *last);
+    let served = uss::serve(SETUP, &TABLE, values, Words::default(), STATUS, telegram, &mut buffer);
+    assert_eq!(served.control, PROCESS);
+    let read = uss::read_reply(SETUP, request, served.answer.reply().unwrap()).unwrap();
+    assert_eq!(read.process, STATUS);
+    read.content
+}
+
+#[test]
+fn each_task_comes_back_as_its_content() {
+    let mut values = [5, 6, 7];
+    assert_eq!(round(Task::None, 0, 0, 0, &mut values), Content::None);
+    assert_eq!(round(Task::Read, 700, 0, 0, &mut values), Content::Word(5));
+    assert_eq!(round(Task::Read, 701, 0, 0, &mut values), Content::Double(6));
+    assert_eq!(round(Task::ReadElement, 700, 1, 0, &mut values), Content::ElementWord(5));
+    assert_eq!(round(Task::ReadElement, 701, 1, 0, &mut values), Content::ElementDouble(7));
+    assert_eq!(round(Task::CountElements, 701, 0, 0, &mut values), Content::Elements(2));
+    assert_eq!(values, [5, 6, 7]);
+    let word = -100i16 as u16;
+    assert_eq!(round(Task::ChangeWord, 700, 0, word.into(), &mut values), Content::Word(word));
+    assert_eq!(round(Task::SaveElementDouble, 701, 1, u32::MAX, &mut values), Content::ElementDouble(u32::MAX));
+    assert_eq!(values, [word.into(), 6, u32::MAX]);
+}
+
+#[test]
+fn each_error_comes_back_as_its_case() {
+    let mut values = [5, 6, 7];
+    let errors = [
+        (Task::Read, 699, 0, 0, ParameterError::NoParameter),
+        (Task::ReadElement, 701, 2, 0, ParameterError::NoElement),
+        (Task::ReadElement, 700, 2, 0, ParameterError::NoArray),
+        (Task::ChangeWord, 701, 0, 0, ParameterError::OtherWidth),
+        (Task::ChangeWord, 700, 0, 101, ParameterError::OutsideLimits),
+    ];
+    for (task, parameter, index, value, error) in errors {
+        assert_eq!(round(task, parameter, index, value, &mut values), Content::Error(error));
+    }
+    assert_eq!(values, [5, 6, 7]);
+}
+
+#[test]
+fn a_reply_without_the_right_to_change_is_read() {
+    let request = Request { task: Task::ChangeWord, parameter: 700, ..Request::default() };
+    let setup = Setup { pzd: 0, ..SETUP };
+    let mut reply = [2, 10, 3, 0x82, 0xBC, 0, 0, 0, 0, 0, 0, 0];
+    reply[11] = uss::bcc(&reply[..11]);
+    assert_eq!(uss::read_reply(setup, request, &reply).unwrap().content, Content::NoRight);
+}
+
+#[test]
+fn a_refused_slave_call_leaves_everything() {
+    let mut out = [0; uss::BUFFER];
+    let change = Request { task: Task::ChangeWord, parameter: 700, value: 9, process: PROCESS, ..Request::default() };
+    let good = uss::build_task(SETUP, change, &mut out).unwrap();
+    let mut flipped = good.to_vec();
+    flipped[9] ^= 1;
+    let unfit = Setup { node: 32, ..SETUP };
+    let other = Setup { node: 4, ..SETUP };
+    let cases = [
+        (unfit, &TABLE[..], 3, good, 256, Refusal::BadSetup),
+        (SETUP, &TABLE[1..], 3, good, 256, Refusal::BadTable),
+        (SETUP, &TABLE[..], 2, good, 256, Refusal::BadValues),
+        (SETUP, &TABLE[..], 3, good, 255, Refusal::ShortReply),
+        (SETUP, &TABLE[..], 3, &good[..4], 256, Refusal::Short),
+        (SETUP, &TABLE[..], 3, &good[1..], 256, Refusal::Start),
+        (SETUP, &TABLE[..], 3, &good[..good.len() - 1], 256, Refusal::Count),
+        (SETUP, &TABLE[..], 3, &flipped[..], 256, Refusal::Check),
+        (other, &TABLE[..], 3, good, 256, Refusal::OtherNode),
+    ];
+    for (setup, table, places, received, room, refusal) in cases {
+        let (mut values, mut reply) = ([5, 6, 7], [0xAA; 256]);
+        let served = uss::serve(setup, table, &mut values[..places], PROCESS, STATUS, received, &mut reply[..room]);
+        assert_eq!(served.answer, Answer::Refused(refusal));
+        assert_eq!(served.answer.reply(), None);
+        assert_eq!((served.control, values, reply), (PROCESS, [5, 6, 7], [0xAA; 256]));
+    }
+}
+
+#[test]
+fn a_refused_build_leaves_the_buffer() {
+    let mut out = [0xAA; uss::BUFFER];
+    let unfit = Setup { pkw: 2, ..SETUP };
+    assert_eq!(uss::build_task(unfit, Request::default(), &mut out), Err(Refusal::UnfitSetup));
+    assert_eq!(uss::build_task(SETUP, Request { parameter: 1, ..Request::default() }, &mut out), Err(Refusal::NotAskable));
+    assert_eq!(uss::build_task(SETUP, Request::default(), &mut out[..255]), Err(Refusal::ShortOut));
+    assert_eq!(uss::build_mirror(SETUP, &[], &mut out), Err(Refusal::NotAskable));
+    assert_eq!(uss::build_mirror(SETUP, &[0; 253], &mut out), Err(Refusal::NotAskable));
+    assert_eq!(uss::build_broadcast(SETUP, 2, 0, 0, PROCESS, &mut out), Err(Refusal::NotAskable));
+    assert_eq!(uss::build_broadcast(SETUP, 2, 0x0400, 0, PROCESS, &mut []), Err(Refusal::ShortOut));
+    assert_eq!(out, [0xAA; uss::BUFFER]);
+}
+
+#[test]
+fn the_longest_mirror_telegram_fills_the_buffer() {
+    let (mut out, mut buffer) = ([0; uss::BUFFER], [0; uss::BUFFER]);
+    let sent = uss::build_mirror(SETUP, &[0x55; 252], &mut out).unwrap();
+    assert_eq!((sent.len(), sent[1], sent[2]), (256, 254, 0x43));
+    let served = uss::serve(SETUP, &[], &mut [], PROCESS, STATUS, sent, &mut buffer);
+    assert_eq!(served.answer, Answer::Mirrored(sent));
+    assert_eq!(uss::read_reply(SETUP, Request::default(), sent), Err(Refusal::Address));
+}
+
+#[test]
+fn a_broadcast_takes_its_masked_bits() {
+    let mut out = [0; uss::BUFFER];
+    let telegram = uss::build_broadcast(SETUP, 6, 0x0401, 0x00FF, PROCESS, &mut out).unwrap();
+    let (control, mut reply) = (Words { w1: 0x8000, w2: 0x2200, w3: 3, w4: 4 }, [0xAA; uss::BUFFER]);
+    let served = uss::serve(SETUP, &[], &mut [], control, STATUS, telegram, &mut reply);
+    assert_eq!(served.answer, Answer::Taken);
+    assert_eq!(served.control, Words { w1: 0x8401, w2: 0x2212, w3: 3, w4: 4 });
+    assert_eq!(reply, [0xAA; uss::BUFFER]);
+}
+
+#[test]
+fn no_listing_is_longer_than_its_buffer() {
+    let mut longest = vec![0u8; 255];
+    (longest[0], longest[1], longest[2]) = (2, 254, 0x20);
+    longest.push(uss::bcc(&longest));
+    for bytes in [&[][..], &longest, &[0xFF; 400]] {
+        let (mut out, mut short) = ([0; uss::LISTING], [0xAA; uss::LISTING]);
+        let text = uss::list(bytes, &mut out).unwrap();
+        assert!(text.starts_with(&format!("telegram listing 1\nbytes {} ", bytes.len().min(300))));
+        assert_eq!(uss::list(bytes, &mut short[..text.len() - 1]), None);
+        assert_eq!(short, [0xAA; uss::LISTING]);
+    }
+}
