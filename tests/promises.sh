@@ -3,7 +3,7 @@
 # must-fail edits of its own crate (an `extern "C"` function, which hands on to another, at least one) and its own instances of
 # claims_results, one for the result and one for each slice lent for writing; every row names a function, and every edit of the
 # repository is named on the page, says in its second line at which fact it fails, and changes no proof. docs/PROMISES.md,
-# docs/DECISIONS.md, docs/DAMAGE.md and docs/HOUSE.md: each name that is given with its crate and file stands there. Exits 1 where
+# docs/DECISIONS.md, docs/DAMAGE.md, docs/HOUSE.md and docs/TABLES.md: each name that is given with its crate and file stands there. Exits 1 where
 # one of these does not hold.
 set -euo pipefail
 cd "$(dirname "$0")/.."
@@ -132,7 +132,7 @@ stands() {
 }
 
 named=0
-for text in docs/PROMISES.md docs/DECISIONS.md docs/DAMAGE.md docs/HOUSE.md; do
+for text in docs/PROMISES.md docs/DECISIONS.md docs/DAMAGE.md docs/HOUSE.md docs/TABLES.md; do
     while read -r crate file names; do
         for name in $names; do
             named=$((named + 1))
