@@ -15,9 +15,9 @@ typedef struct {
 /* Both drives have the same parameters: 700 source of commands, 0 to 6, read only; 1080 lowest speed, two elements of 0 to
  * 50; 2000 running hours, a double, read only. */
 static const uint8_t table[] = {
-    0x05, 0x78, 0x00, 0x00, 0, 0, 0, 0, 0, 0, 0, 6,
-    0x08, 0x70, 0x40, 0x80, 0, 0, 0, 0, 0, 0, 0, 50,
-    0x0F, 0xA1, 0x00, 0x00, 0, 0, 0, 0, 0xFF, 0xFF, 0xFF, 0xFF
+    USS_WORD(700, USS_READ_ONLY, 0, 0, 6),
+    USS_WORD(1080, USS_WRITABLE, 2, 0, 50),
+    USS_DOUBLE(2000, USS_READ_ONLY, 0, 0, 4294967295)
 };
 
 static drive drives[2] = {

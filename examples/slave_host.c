@@ -8,13 +8,10 @@
 #include <stdio.h>
 #include <string.h>
 
-/* The parameter table, 12 bytes a record, numbers rising. A record's first word is number * 2 + double; then come
- * signed 0x80 + writable 0x40 + elements / 4, and elements % 4 * 64; then minimum and maximum, four bytes each, high byte first. */
+/* The parameter table, numbers rising: number, access, elements (0 = no array), minimum, maximum. docs/TABLES.md says more. */
 static const uint8_t table[] = {
-    /* 700: word, writable, 0 to 99 */
-    0x05, 0x78, 0x40, 0x00, 0, 0, 0, 0, 0, 0, 0, 99,
-    /* 1082: word, writable, two elements, 0 to 65000 */
-    0x08, 0x74, 0x40, 0x80, 0, 0, 0, 0, 0, 0, 0xFD, 0xE8
+    USS_WORD(700, USS_WRITABLE, 0, 0, 99),
+    USS_WORD(1082, USS_WRITABLE, 2, 0, 65000)
 };
 /* One number for each element, in the order of the records: 700, 1082.0, 1082.1. */
 static uint32_t values[] = {5, 5000, 6000};

@@ -137,6 +137,59 @@ typedef struct {
     uss_words process;
 } uss_reply;
 
+/* ---- a parameter table as constant bytes
+ *
+ * Each of the first four is the 12 bytes of one record, for a table that stays in flash, in C99 and in C++11:
+ *
+ *     static const uint8_t table[] = {
+ *         USS_WORD(700, USS_WRITABLE, 0, 0, 99),
+ *         USS_SIGNED_WORD(1082, USS_READ_ONLY, 2, -100, 100)
+ *     };
+ *
+ * All arguments are whole-number constants: number, access, elements (0 = no array), minimum, maximum, the limits as they are
+ * written, -100 too. A number over 31999, elements over 254, a limit that the kind cannot hold or a minimum over the maximum is
+ * an error of the compiler at that record: an array of negative size, in a macro that says which of them it is. What takes more
+ * than one record to see is found when the table is used. docs/TABLES.md goes from nothing to a table.
+ */
+#define USS_WORD(number, access, elements, minimum, maximum) \
+    USS_RECORD_BYTES(number, 0, access, elements, minimum, maximum, 0, 65535)
+#define USS_SIGNED_WORD(number, access, elements, minimum, maximum) \
+    USS_RECORD_BYTES(number, 1, access, elements, minimum, maximum, -32768, 32767)
+#define USS_DOUBLE(number, access, elements, minimum, maximum) \
+    USS_RECORD_BYTES(number, 2, access, elements, minimum, maximum, 0, 4294967295)
+#define USS_SIGNED_DOUBLE(number, access, elements, minimum, maximum) \
+    USS_RECORD_BYTES(number, 3, access, elements, minimum, maximum, -2147483648, 2147483647)
+
+/* access */
+#define USS_READ_ONLY 0
+#define USS_WRITABLE 1
+
+/* A word's value as it stands in the values: USS_WORD_VALUE(-100) is 0x0000FF9C. */
+#define USS_WORD_VALUE(value) ((value) & 65535)
+
+/* What they are made of. kind is 2 for a double, and 1 more where it is signed; least and most are what the kind can hold. */
+#define USS_RECORD_BYTES(number, kind, access, elements, minimum, maximum, least, most) \
+    USS_NUMBER_AT_MOST_31999(number) * USS_BYTE(number, 7), \
+    USS_BYTE(((number) + 0LL) * 2 + (kind) / 2, 0), \
+    USS_ELEMENTS_AT_MOST_254(elements) * USS_ACCESS_IS_0_OR_1(access) * \
+        USS_BYTE((kind) % 2 * 128 + (access) * 64 + ((elements) + 0LL) / 4, 0), \
+    USS_BYTE(((elements) + 0LL) % 4 * 64, 0), \
+    USS_LIMIT_BYTES(minimum, kind, least, most), \
+    USS_MINIMUM_AT_MOST_MAXIMUM(minimum, maximum) * USS_LIMIT_BYTES(maximum, kind, least, most)
+#define USS_LIMIT_BYTES(limit, kind, least, most) \
+    USS_LIMIT_FITS_ITS_KIND(limit, least, most) * ((kind) / 2) * USS_BYTE(limit, 24), \
+    ((kind) / 2) * USS_BYTE(limit, 16), \
+    USS_BYTE(limit, 8), \
+    USS_BYTE(limit, 0)
+#define USS_BYTE(x, shift) ((((x) + 0LL) & 4294967295LL) >> (shift) & 255)
+/* 1 where it holds; no program where it does not. */
+#define USS_HOLDS(test) sizeof(char[(test) ? 1 : -1])
+#define USS_NUMBER_AT_MOST_31999(number) USS_HOLDS((number) + 0LL >= 0 && (number) + 0LL <= 31999)
+#define USS_ELEMENTS_AT_MOST_254(elements) USS_HOLDS((elements) + 0LL >= 0 && (elements) + 0LL <= 254)
+#define USS_ACCESS_IS_0_OR_1(access) USS_HOLDS((access) + 0LL == 0 || (access) + 0LL == 1)
+#define USS_LIMIT_FITS_ITS_KIND(limit, least, most) USS_HOLDS((limit) + 0LL >= (least) && (limit) + 0LL <= (most))
+#define USS_MINIMUM_AT_MOST_MAXIMUM(minimum, maximum) USS_HOLDS((minimum) + 0LL <= (maximum) + 0LL)
+
 /* ---- the slave
  *
  * table     records of 12 bytes, numbers rising. Bytes 0 to 3, most significant bit first: number 15 bits, double 1, signed 1,

@@ -3,9 +3,9 @@
 # must-fail edits of its own crate (an `extern "C"` function, which hands on to another, at least one) and its own instances of
 # claims_results, one for the result and one for each slice lent for writing; every row names a function, and every edit of the
 # repository is named on the page, says in its second line at which fact it fails, and changes no proof. docs/PROTOCOL.md,
-# docs/PROMISES.md, docs/DECISIONS.md, docs/DAMAGE.md, docs/HOUSE.md and CONTRIBUTING.md: each name that is given with its crate and
-# file stands there. Every page: a link leads to a file of the repository, and to a heading of it where it names one; "docs/PROTOCOL.md,
-# Section" names a section of it. Exits 1 where one of these does not hold.
+# docs/PROMISES.md, docs/DECISIONS.md, docs/DAMAGE.md, docs/HOUSE.md, docs/TABLES.md and CONTRIBUTING.md: each name that is given with
+# its crate and file stands there. Every page: a link leads to a file of the repository, and to a heading of it where it names one;
+# "docs/PROTOCOL.md, Section" names a section of it. Exits 1 where one of these does not hold.
 set -euo pipefail
 cd "$(dirname "$0")/.."
 page=docs/PROMISES.md
@@ -133,7 +133,7 @@ stands() {
 }
 
 named=0
-for text in docs/PROTOCOL.md docs/PROMISES.md docs/DECISIONS.md docs/DAMAGE.md docs/HOUSE.md CONTRIBUTING.md; do
+for text in docs/PROTOCOL.md docs/PROMISES.md docs/DECISIONS.md docs/DAMAGE.md docs/HOUSE.md docs/TABLES.md CONTRIBUTING.md; do
     while read -r crate file names; do
         for name in $names; do
             named=$((named + 1))

@@ -52,6 +52,44 @@ c_test() {
     gcc -std=c99 "${strict[@]}" -o "$out/calls" tests/c/calls.c "$archive" && "$out/calls"
 }
 
+# tables by the header's macros, as C99 and as C++11, with every conversion that may change a value an error
+table_macros() {
+    gcc -std=c99 "${strict[@]}" -Wconversion -Wsign-conversion -o "$out/tables" tests/c/tables.c "$archive" && "$out/tables" \
+        && g++ -std=c++11 "${strict[@]}" -Wconversion -Wsign-conversion -o "$out/tables" -x c++ tests/c/tables.c -x none "$archive" \
+        && "$out/tables"
+}
+
+# record_taken ARGUMENTS..: whether the compiler takes a record of that macro; what it says goes to $out/said
+record_taken() {
+    printf '#include "uss.h"\nconst uint8_t record[] = {%s};\n' "$1" > "$out/record.c"
+    gcc -std=c99 "${strict[@]}" -Wno-unused -fsyntax-only "$out/record.c" > "$out/said" 2>&1
+}
+
+# a record that breaks a rule of its own is refused when it is compiled, by the macro that names the rule
+records_refused() {
+    local macro record wrong=0
+    record_taken 'USS_WORD(31999, USS_WRITABLE, 254, 0, 65535)' || { cat "$out/said"; wrong=1; }
+    while IFS=';' read -r macro record; do
+        if record_taken "$record" || ! grep -q "$macro" "$out/said"; then
+            echo "$record is not refused by $macro"
+            wrong=1
+        fi
+    done <<'END'
+USS_NUMBER_AT_MOST_31999;USS_WORD(32000, USS_WRITABLE, 0, 0, 1)
+USS_NUMBER_AT_MOST_31999;USS_WORD(-1, USS_WRITABLE, 0, 0, 1)
+USS_ACCESS_IS_0_OR_1;USS_WORD(1, 2, 0, 0, 1)
+USS_ELEMENTS_AT_MOST_254;USS_WORD(1, USS_WRITABLE, 255, 0, 1)
+USS_LIMIT_FITS_ITS_KIND;USS_WORD(1, USS_WRITABLE, 0, -1, 1)
+USS_LIMIT_FITS_ITS_KIND;USS_WORD(1, USS_WRITABLE, 0, 0, 65536)
+USS_LIMIT_FITS_ITS_KIND;USS_SIGNED_WORD(1, USS_WRITABLE, 0, -32769, 0)
+USS_LIMIT_FITS_ITS_KIND;USS_SIGNED_WORD(1, USS_WRITABLE, 0, 0, 32768)
+USS_LIMIT_FITS_ITS_KIND;USS_DOUBLE(1, USS_WRITABLE, 0, 0, 4294967296)
+USS_LIMIT_FITS_ITS_KIND;USS_SIGNED_DOUBLE(1, USS_WRITABLE, 0, 0, 2147483648)
+USS_MINIMUM_AT_MOST_MAXIMUM;USS_SIGNED_WORD(1, USS_WRITABLE, 0, 5, -5)
+END
+    return "$wrong"
+}
+
 header_in_cpp() {
     printf '#include "uss.h"\nint main() { return uss_bcc(nullptr, 0); }\n' > "$out/header.cpp"
     g++ -std=c++11 "${strict[@]}" -o "$out/header" "$out/header.cpp" "$archive" && "$out/header"
@@ -81,6 +119,8 @@ try 'the archive offers what the header declares' symbols
 try 'the archive has no state and no system call, and needs nothing from outside' closed
 try 'C test' c_test
 try 'header under C++' header_in_cpp
+try 'tables by the macros' table_macros
+try 'records that break a rule do not compile' records_refused
 try 'example slave_host.c' example slave_host
 try 'example master_host.c' example master_host
 try 'example host.rs' rust_example

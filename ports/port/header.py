@@ -24,9 +24,12 @@ class Reader:
         with open(path) as file:
             text = file.read()
         text = re.sub(r"/\*.*?\*/", lambda m: re.sub(r"[^\n]", " ", m[0]), text, flags=re.S)
+        goes_on = False  # the line before ended in a backslash: this one belongs to its directive
         for number, line in enumerate(text.split("\n"), 1):
-            if line.startswith("#"):
-                self.directive(number, line)
+            if goes_on or line.startswith("#"):
+                if not goes_on:
+                    self.directive(number, line)
+                goes_on = line.endswith("\\")
                 continue
             end = 0
             for token in TOKEN.finditer(line):
@@ -40,7 +43,9 @@ class Reader:
             raise Refused(f"{self.path}:{number}: not understood: {text.strip()}")
 
     def directive(self, number, line):
-        known = r'#(ifndef USS_H|define USS_\w+( \w+| "[0-9.]+")?|include <std(def|int)\.h>|ifdef __cplusplus|endif)\s*'
+        # a macro with parameters is passed over: no declaration may name it, since its name is no type and no number
+        macro = r"define USS_[A-Z0-9_]+\([a-z, ]+\) .*"
+        known = rf'#(ifndef USS_H|define USS_\w+( \w+| "[0-9.]+")?|{macro}|include <std(def|int)\.h>|ifdef __cplusplus|endif)\s*'
         if not re.fullmatch(known, line):
             raise Refused(f"{self.path}:{number}: not understood: {line}")
 
