@@ -129,11 +129,12 @@ def overview(pages, date):
     out += [".SH STRUCTS"]
     for i, struct in enumerate(pages.structs):
         out += (paragraph(struct.text) if i else lines_of(struct.text)) + code(struct.definition)
-    out += [".SH SIZES"]
+    out += [".SH CONSTANTS"]
     for macro in pages.macros:
         out += item(f"\\fB{macro.name}\\fP {macro.value}", macro.text)
     for name, (title, rows) in pages.numbers.items():
-        out += [f".SH {escape(title.split(':')[0]).upper()}", f"These are \\fBenum {name}\\fP{escape(title[len(title.split(':')[0]):])}."]
+        short = re.match(r"[^:;]*", title)[0]
+        out += [f".SH {escape(short).upper()}", f"These are \\fBenum {name}\\fP" + (":" if title != short else "."), *lines_of((title[len(short) + 1 :] + ".").strip(" ") if title != short else "")]
         for constant, number, text in rows:
             out += item(f"{number} \\fB{constant}\\fP", text)
     return out + see_also([(call.name, 3) for call in pages.calls])
