@@ -160,8 +160,9 @@ typedef struct {
 #define USS_SIGNED_DOUBLE(number, access, elements, minimum, maximum) \
     USS_RECORD_BYTES(number, 3, access, elements, minimum, maximum, -2147483648, 2147483647)
 
-/* access */
+/* The access of a parameter that a master can only read. */
 #define USS_READ_ONLY 0
+/* The access of a parameter that a master may change. */
 #define USS_WRITABLE 1
 
 /* A word's value as it stands in the values: USS_WORD_VALUE(-100) is 0x0000FF9C. */
