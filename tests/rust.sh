@@ -34,7 +34,7 @@ crate() {
 # all tests, with at least one in the documentation of each function
 tests() {
     crate test > "$room/tests" 2>&1 || { cat "$room/tests"; return 1; }
-    ran="$(awk '/^test result: ok/ { sum += $4 } END { print sum + 0 }' "$room/tests")"
+    local documented
     documented="$(awk '/^test result: ok/ { last = $4 } END { print last + 0 }' "$room/tests")"
     [ "$documented" -ge "$(grep -c '^pub fn ' rust/src/lib.rs)" ] || { echo "$documented documentation tests"; return 1; }
 }
