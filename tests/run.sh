@@ -1,6 +1,6 @@
 #!/usr/bin/env bash
 # Builds the library for C and runs everything that stands outside the proofs: what the archive offers and takes, the C test, the header
-# under C++, the examples and the demo against their stored output, and the comparison with a second implementation on some
+# under C++, the texts for numbers, the examples and the demo against their stored output, and the comparison with a second implementation on some
 # millions of calls. Prints a line for each; exits 1 where one fails. Nothing is fetched.
 #     tests/run.sh [SEED [ROUNDS]]      of the comparison
 set -euo pipefail
@@ -81,6 +81,7 @@ try 'the archive offers what the header declares' symbols
 try 'the archive has no state and no system call, and needs nothing from outside' closed
 try 'C test' c_test
 try 'header under C++' header_in_cpp
+try 'texts for numbers' tests/text.sh
 try 'example slave_host.c' example slave_host
 try 'example master_host.c' example master_host
 try 'example host.rs' rust_example
