@@ -1,6 +1,7 @@
 /* A small bus on a screen: a master, a fan drive at node 3 and a pump drive at node 5, and noise on the line. Every telegram
  * goes through the library; each step shows what was sent, what a listing says of it, and what the drives did. */
 #include "uss.h"
+#include "uss_text.h"
 
 #include <stdio.h>
 #include <string.h>
@@ -27,42 +28,6 @@ static drive drives[2] = {
 
 static const uss_setup fan = {3, 4, 2};
 static int step_number = 0;
-
-/* ---- words for numbers */
-
-static const char *say_answer(uint32_t number)
-{
-    switch (number) {
-    case USS_REPLIED: return "replied";
-    case USS_MIRRORED: return "mirrored";
-    case USS_TAKEN: return "broadcast taken, no reply";
-    case USS_SHORT: return "fewer than 5 bytes";
-    case USS_START: return "first byte not 02";
-    case USS_LGE: return "LGE not 3 to 254";
-    case USS_COUNT: return "byte count not LGE + 2";
-    case USS_CHECK: return "check character wrong";
-    case USS_ADDRESS: return "bad address byte";
-    case USS_OTHER_NODE: return "for another node";
-    case USS_OTHER_LENGTH: return "not my length";
-    case USS_VOID_BROADCAST: return "void broadcast";
-    case USS_NOT_ASKABLE: return "cannot be asked";
-    case USS_NOT_THE_REPLY: return "not the reply to this task";
-    default: return "other";
-    }
-}
-
-static const char *say_error(uint32_t error)
-{
-    switch (error) {
-    case USS_NO_PARAMETER: return "no such parameter";
-    case USS_NOT_WRITABLE: return "not writable";
-    case USS_OUTSIDE_LIMITS: return "outside its limits";
-    case USS_NO_ELEMENT: return "no such element";
-    case USS_NO_ARRAY: return "not an array";
-    case USS_OTHER_WIDTH: return "other width";
-    default: return "other";
-    }
-}
 
 /* ---- showing */
 
@@ -109,7 +74,7 @@ static size_t on_the_line(const uint8_t *t, size_t n, uint8_t *back)
         uss_words status = {0x0331, 0x2000, 0, 0};
         uss_answer a = uss_slave(d->setup, table, sizeof table, d->values, 4, d->control, status, t, n, reply, sizeof reply);
         d->control = a.control;
-        printf("   %s  answer %u: %s\n", d->name, (unsigned)a.number, say_answer(a.number));
+        printf("   %s  answer %u: %s\n", d->name, (unsigned)a.number, uss_number_text(a.number));
         show_drive(d, &before);
         if (a.length > 0) {
             memcpy(back, reply, a.length);
@@ -129,9 +94,9 @@ static void read_back(uint8_t task, uint16_t parameter, uint8_t index, uint32_t 
 {
     uss_reply r = uss_read_reply(fan, task, parameter, index, value, process, t, n);
     if (r.number != USS_DONE)
-        printf("   master: refused %u, %s\n", (unsigned)r.number, say_answer(r.number));
+        printf("   master: refused %u, %s\n", (unsigned)r.number, uss_number_text(r.number));
     else if (r.id == USS_ID_ERROR)
-        printf("   master: error %u, %s\n", (unsigned)r.value, say_error(r.value));
+        printf("   master: error %u, %s\n", (unsigned)r.value, uss_error_text(r.value));
     else
         printf("   master: parameter %u index %u is %u (reply ID %u)\n", (unsigned)parameter, (unsigned)index, (unsigned)r.value, (unsigned)r.id);
 }
@@ -142,7 +107,7 @@ static void ask(uint8_t task, uint16_t parameter, uint8_t index, uint32_t value)
     uss_words process = {0x047E, 0x1111, 0, 0};
     uss_built b = uss_build_task(fan, task, parameter, index, value, process, telegram, sizeof telegram);
     if (b.number != USS_DONE) {
-        printf("   master: refused %u, %s; nothing is sent\n", (unsigned)b.number, say_answer(b.number));
+        printf("   master: refused %u, %s; nothing is sent\n", (unsigned)b.number, uss_number_text(b.number));
         return;
     }
     read_back(task, parameter, index, value, process, back, on_the_line(telegram, b.length, back));

@@ -3,6 +3,7 @@
  * Replace `exchange` by your serial port: send the telegram, and take the bytes that come until the line is quiet.
  */
 #include "uss.h"
+#include "uss_text.h"
 
 #include <stdio.h>
 #include <string.h>
@@ -37,18 +38,18 @@ static int ask(uint16_t parameter, uint32_t *value)
     size_t n;
 
     if (b.number != USS_DONE) {
-        printf("cannot be asked: %u\n", (unsigned)b.number);
+        printf("not built: %u, %s\n", (unsigned)b.number, uss_number_text(b.number));
         return 1;
     }
     n = exchange(telegram, b.length, reply, sizeof reply);
     r = uss_read_reply(setup, USS_READ, parameter, 0, 0, process, reply, n);
     if (r.number != USS_DONE) {
-        printf("no reply to this task: %u\n", (unsigned)r.number);
+        printf("not read: %u, %s\n", (unsigned)r.number, uss_number_text(r.number));
         return 1;
     }
     printf("status word %04X, actual value %04X\n", (unsigned)r.process.w1, (unsigned)r.process.w2);
     if (r.id == USS_ID_ERROR) {
-        printf("the drive says error %u\n", (unsigned)r.value);
+        printf("the drive says error %u, %s\n", (unsigned)r.value, uss_error_text(r.value));
         return 1;
     }
     *value = r.value;

@@ -4,6 +4,7 @@
  * call. The library keeps nothing: the state of the drive is what stands in these variables.
  */
 #include "uss.h"
+#include "uss_text.h"
 
 #include <stdio.h>
 #include <string.h>
@@ -64,8 +65,8 @@ int main(void)
         /* Refusals and broadcasts have length 0: nothing is sent. */
         if (a.length > 0)
             send(reply, a.length);
-        printf("answer %u, control word %04X, set point %04X, parameter 700 is %u\n", (unsigned)a.number,
-               (unsigned)control.w1, (unsigned)control.w2, (unsigned)values[0]);
+        printf("answer %u, %s; control word %04X, set point %04X, parameter 700 is %u\n", (unsigned)a.number,
+               uss_number_text(a.number), (unsigned)control.w1, (unsigned)control.w2, (unsigned)values[0]);
     }
     return 0;
 }

@@ -1,7 +1,7 @@
 #!/usr/bin/env bash
 # Builds the library for C and runs everything that stands outside the proofs: what the archive offers and takes, the C test, the header
-# under C++, the examples and the demo against their stored output, and the comparison with a second implementation on some
-# millions of calls. Prints a line for each; exits 1 where one fails. Nothing is fetched.
+# under C++, the texts for numbers, the examples and the demo against their stored output, what is told at a first run, and the
+# comparison with a second implementation on some millions of calls. Prints a line for each; exits 1 where one fails. Nothing is fetched.
 #     tests/run.sh [SEED [ROUNDS]]      of the comparison
 set -euo pipefail
 cd "$(dirname "$(readlink -f "${BASH_SOURCE[0]}")")/.."
@@ -121,9 +121,11 @@ try 'C test' c_test
 try 'header under C++' header_in_cpp
 try 'tables by the macros' table_macros
 try 'records that break a rule do not compile' records_refused
+try 'texts for numbers' tests/text.sh
 try 'example slave_host.c' example slave_host
 try 'example master_host.c' example master_host
 try 'example host.rs' rust_example
 try 'demo' demo
+try 'first run' tests/first_run.sh
 try 'comparison with a second implementation' comparison "$@"
 exit "$failed"
