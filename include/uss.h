@@ -13,7 +13,7 @@
  * with any pointer, NULL too.
  *
  * Structs go by value. Their layout is that of the chip's own C compiler (docs/CHIPS.md has the chips): no field is packed,
- * and sizes are 3, 8, 16, 8 and 20 bytes in the order below on each of them. On a 32-bit chip size_t has 32 bits, and a count
+ * and sizes are 3, 8, 16, 8, 20 and 16 bytes in the order below on each of them. On a 32-bit chip size_t has 32 bits, and a count
  * no more. Static asserts of each size and offset are compiled for each target.
  */
 #ifndef USS_H
@@ -82,6 +82,23 @@ enum uss_error {
     USS_NO_SUCH_TASK = 106   /* task 4, 5, 10 or 15 */
 };
 
+/* ---- rules of a table and its values, in the order in which uss_check_table looks at them */
+
+enum uss_rule {
+    USS_RULE_KEPT = 0,            /* none is broken */
+    USS_RULE_PART_RECORD = 1,     /* the length is not whole records of 12 bytes */
+    USS_RULE_MANY_RECORDS = 2,    /* more than 512 records */
+    USS_RULE_NUMBER_ORDER = 3,    /* number not over that of the record before it */
+    USS_RULE_HIGH_NUMBER = 4,     /* number over 31999 */
+    USS_RULE_MANY_ELEMENTS = 5,   /* elements over 254 */
+    USS_RULE_SPARE_BIT = 6,       /* a spare bit is set */
+    USS_RULE_UPPER_HALF = 7,      /* a word's limit has an upper half */
+    USS_RULE_LIMIT_ORDER = 8,     /* minimum over maximum */
+    USS_RULE_MANY_PLACES = 9,     /* over 4096 places with this record */
+    USS_RULE_VALUE_COUNT = 10,    /* another number of values than the table has places */
+    USS_RULE_OUTSIDE_LIMITS = 11  /* a value outside its record's limits */
+};
+
 /* ---- task IDs; docs/PROTOCOL.md, Tasks, has what each does */
 
 enum uss_task {
@@ -137,6 +154,12 @@ typedef struct {
     uss_words process;
 } uss_reply;
 
+/* What a check of a table tells: number 0, 21 or 22; the rule that is broken first; the record at fault, from 0; for a value
+ * its place, from 0. All 0 where no rule is broken. */
+typedef struct {
+    uint32_t number, rule, record, place;
+} uss_table_check;
+
 /* ---- a parameter table as constant bytes
  *
  * Each of the first four is the 12 bytes of one record, for a table that stays in flash, in C99 and in C++11:
@@ -149,7 +172,7 @@ typedef struct {
  * All arguments are whole-number constants: number, access, elements (0 = no array), minimum, maximum, the limits as they are
  * written, -100 too. A number over 31999, elements over 254, a limit that the kind cannot hold or a minimum over the maximum is
  * an error of the compiler at that record: an array of negative size, in a macro that says which of them it is. What takes more
- * than one record to see is found when the table is used. docs/TABLES.md goes from nothing to a table.
+ * than one record to see uss_check_table finds. docs/TABLES.md goes from nothing to a table that passes.
  */
 #define USS_WORD(number, access, elements, minimum, maximum) \
     USS_RECORD_BYTES(number, 0, access, elements, minimum, maximum, 0, 65535)
@@ -217,6 +240,14 @@ typedef struct {
 uss_answer uss_slave(uss_setup setup, const uint8_t *table, size_t table_len, uint32_t *values, size_t value_count,
                      uss_words control, uss_words status, const uint8_t *received, size_t received_len,
                      uint8_t *reply, size_t reply_len);
+
+/* Says which rule of docs/TABLES.md table and values break first, by which record and by which value: for power-up and for tests.
+ *
+ * Numbers in test order: 21, 22, then 0.
+ *
+ * They are those that uss_slave finds of table and values: 21 goes with rules 1 to 9, 22 with 10 and 11. It writes nothing.
+ */
+uss_table_check uss_check_table(const uint8_t *table, size_t table_len, const uint32_t *values, size_t value_count);
 
 /* ---- the master
  *

@@ -1,8 +1,8 @@
 #!/usr/bin/env bash
 # Compares the numbers that the calls give, wherever they are told. The place is include/uss.h: its enums uss_number and uss_error have
 # name, number and meaning of each. README.md and docs/PROTOCOL.md: every one has a row with the same number, names and meaning, and there
-# is no other. The definitions in crates/*/specs: the numbers of all definitions NAMENumber over an enum are those of the enums, and no
-# other. The order in which they are tested, by the rows of the definitions, is that of docs/PROTOCOL.md's tables and of each line
+# is no other; the rules of a table (uss_rule) have their rows in docs/TABLES.md. The definitions in crates/*/specs: the numbers of all
+# definitions NAMENumber over an enum are those of the enums, and no other. The order in which they are tested, by the rows of the definitions, is that of docs/PROTOCOL.md's tables and of each line
 # "Numbers, in test order" of docs/PROTOCOL.md, docs/CALLS.md and include/uss.h. docs/PROTOCOL.md's pages, tasks and worked telegrams are
 # those of the definitions. Exits 1 where one of these does not hold.
 set -euo pipefail
@@ -57,7 +57,7 @@ def constants(enum):
     return {name: (int(number), plain(meaning)) for name, number, meaning in found}
 
 
-ANSWERS, ERRORS = constants("uss_number"), constants("uss_error")
+ANSWERS, ERRORS, RULES = constants("uss_number"), constants("uss_error"), constants("uss_rule")
 ALIASES = dict(re.findall(r"^#define (USS_\w+) (USS_\w+)$", HEADER, re.M))
 
 # ---- the definitions: an enum's case to its number
@@ -82,11 +82,14 @@ def number_of(name, case):
     return next(int(value) for pattern, value in DEFINED[name][1] if pattern.strip("()").split()[0] == case)
 
 
-told = {True: set(), False: set()}
+told = {"uss_number": set(), "uss_error": set(), "uss_rule": set()}
 for name, (enum, _) in DEFINED.items():
-    told[enum == "ParameterError"] |= set(numbers_of(name))
-same("the numbers of the definitions and of enum uss_number", sorted(told[False]), sorted(number for number, _ in ANSWERS.values()))
-same("the numbers of the definitions and of enum uss_error", sorted(told[True]), sorted(number for number, _ in ERRORS.values()))
+    told[{"ParameterError": "uss_error", "Rule": "uss_rule"}.get(enum, "uss_number")] |= set(numbers_of(name))
+for enum, found in [("uss_number", ANSWERS), ("uss_error", ERRORS), ("uss_rule", RULES)]:
+    same(f"the numbers of the definitions and of enum {enum}", sorted(told[enum]), sorted(number for number, _ in found.values()))
+TABLES = re.search(r"^## The rules$(.*?)^## ", text_of("docs/TABLES.md"), re.S | re.M)[1]
+same("the rules of docs/TABLES.md and of enum uss_rule", [0] + [int(n) for n in re.findall(r"^\| (\d+) \|", TABLES, re.M)],
+     [number for number, _ in RULES.values()])
 
 # ---- the definitions: the order of the tests
 
@@ -114,6 +117,7 @@ def rows(crate, file, name):
 
 content = body_of("opening", "Answers", "contentRows")
 OPENING = cases(body_of("opening", "Answers", "openingRows").replace("contentRows", content), "Closed", "openingNumber")
+TABLE = cases(content, "Closed", "openingNumber") + [0]
 FRAME = cases(body_of("frame", "Frame", "frameRows"), "Broken", "frameNumber")
 SLAVE = rows("claims_slave", "AnswerTable", "answerRows")
 BUILD = cases(body_of("master", "Build", "admitRows"), "Refused", "buildNumber")
@@ -143,8 +147,8 @@ def table_of(page):
 
 
 for page, answers, errors in (
-    ("README.md", sorted(told[False]), sorted(told[True])),
-    ("docs/PROTOCOL.md", SLAVE + sorted(told[False] - set(SLAVE)), VERDICT),
+    ("README.md", sorted(told["uss_number"]), sorted(told["uss_error"])),
+    ("docs/PROTOCOL.md", SLAVE + sorted(told["uss_number"] - set(SLAVE)), VERDICT),
 ):
     found = table_of(page)
     for number, names, meaning in found:
@@ -173,7 +177,7 @@ def orders_of(page):
 
 same("docs/PROTOCOL.md: orders of slave, build, reading", orders_of("docs/PROTOCOL.md"), [SLAVE, BUILD, READ])
 same("docs/CALLS.md: orders of slave, three builds, reading", orders_of("docs/CALLS.md"), [SLAVE, BUILD, BUILD, BUILD, READ])
-same("include/uss.h: orders of slave, build, reading", orders_of("include/uss.h"), [SLAVE, BUILD, READ])
+same("include/uss.h: orders of slave, table check, build, reading", orders_of("include/uss.h"), [SLAVE, TABLE, BUILD, READ])
 
 # ---- docs/PROTOCOL.md: pages and tasks
 
@@ -219,6 +223,6 @@ for name, column in (("task1082", [task for task, _ in cells]), ("value1082", [r
     same(f"docs/PROTOCOL.md: the bytes of {name}", [int(byte, 16) for byte in " ".join(column).split()], telegram_of(name))
 
 print(f"numbers: {len(ANSWERS)} answer numbers, {len(ERRORS)} parameter errors, {len(TASKS)} tasks, {len(pages)} pages; "
-      f"{len(DEFINED)} definitions, 3 orders, 3 telegrams")
+      f"{len(RULES)} rules of a table, {len(DEFINED)} definitions, 4 orders, 3 telegrams")
 sys.exit(failed)
 PYTHON

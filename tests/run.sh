@@ -59,7 +59,17 @@ table_macros() {
         && "$out/tables"
 }
 
-# record_taken ARGUMENTS..: whether the compiler takes a record of that macro; what it says goes to $out/said
+# the table and the values of docs/TABLES.md are taken from the page and pass, and a record's bytes are those that it shows; it names
+# each rule of the header, by its number, in order
+table_page() {
+    sed -n '/^## 2/,/^## 4/s/^    //p' docs/TABLES.md > "$out/page.h"
+    gcc -std=c99 "${strict[@]}" -Wconversion -I"$out" -o "$out/page" tests/c/page.c "$archive" && "$out/page" > "$out/printed" \
+        && grep -qxFf "$out/printed" docs/TABLES.md \
+        && diff <(sed -nE 's/^    USS_RULE_[A-Z_]+ = ([1-9][0-9]*).*/\1/p' include/uss.h) \
+            <(sed -n '/^## The rules/,/^## The twelve/s/^| \([0-9]*\) | .*/\1/p' docs/TABLES.md)
+}
+
+# record_taken RECORD: whether the compiler takes it; what it says goes to $out/said
 record_taken() {
     printf '#include "uss.h"\nconst uint8_t record[] = {%s};\n' "$1" > "$out/record.c"
     gcc -std=c99 "${strict[@]}" -Wno-unused -fsyntax-only "$out/record.c" > "$out/said" 2>&1
@@ -122,6 +132,7 @@ try 'header under C++' header_in_cpp
 try 'tables by the macros' table_macros
 try 'records that break a rule do not compile' records_refused
 try 'texts for numbers' tests/text.sh
+try 'docs/TABLES.md' table_page
 try 'example slave_host.c' example slave_host
 try 'example master_host.c' example master_host
 try 'example host.rs' rust_example

@@ -1,4 +1,5 @@
-/* Each call once from C: known telegrams (K1 to K6, K9, K10 of document 01), and bad use. Prints a line for each group. */
+/* Each call once from C: known telegrams (K1 to K6, K9, K10 of document 01), bad use, and each rule of a table broken. Prints a line
+ * for each group. */
 #define _DEFAULT_SOURCE
 #include "uss.h"
 
@@ -173,9 +174,71 @@ static void empty_slices(void)
     puts("empty slices");
 }
 
+/* 1000: two words, 0 to 10; 1082: a signed word, -100 to 100 */
+static const uint8_t two_records[24] = {
+    USS_WORD(1000, USS_WRITABLE, 2, 0, 10),
+    USS_SIGNED_WORD(1082, USS_WRITABLE, 0, -100, 100)
+};
+
+static int tells(uss_table_check c, uint32_t number, uint32_t rule, uint32_t record_at, uint32_t place)
+{
+    return c.number == number && c.rule == rule && c.record == record_at && c.place == place;
+}
+
+/* Each rule by one slip in a table at the end of memory. */
+static void broken_rules(void)
+{
+    static const struct {
+        size_t at;
+        uint8_t byte, next;
+        uint32_t rule;
+    } slips[] = {
+        {12, 0x07, 0xD0, USS_RULE_NUMBER_ORDER},  /* 1000 again */
+        {12, 0xFA, 0x00, USS_RULE_HIGH_NUMBER},   /* 32000 */
+        {14, 0xFF, 0xC0, USS_RULE_MANY_ELEMENTS}, /* 255 */
+        {14, 0xC0, 0x01, USS_RULE_SPARE_BIT},
+        {16, 0xFF, 0xFF, USS_RULE_UPPER_HALF},    /* -100 of 32 bits */
+        {18, 0x00, 0x9C, USS_RULE_LIMIT_ORDER}    /* 156 to 100 */
+    };
+    uint8_t *table = at_the_end(24), *many = at_the_end(12 * 513);
+    uint32_t *values = (uint32_t *)(void *)at_the_end(12);
+    size_t i;
+
+    memcpy(table, two_records, 24);
+    values[0] = 0;
+    values[1] = 10;
+    values[2] = 0xFF9C;
+    expect(tells(uss_check_table(table, 24, values, 3), 0, USS_RULE_KEPT, 0, 0), "no rule is broken");
+    expect(tells(uss_check_table(NULL, 0, NULL, 0), 0, USS_RULE_KEPT, 0, 0), "a table of nothing");
+    expect(tells(uss_check_table(table + 1, 23, values, 3), USS_BAD_TABLE, USS_RULE_PART_RECORD, 1, 0), "half a record");
+    expect(tells(uss_check_table(table, 24, values, 2), USS_BAD_VALUES, USS_RULE_VALUE_COUNT, 2, 3), "a value too few");
+    values[2] = 0xFF9B;
+    expect(tells(uss_check_table(table, 24, values, 3), USS_BAD_VALUES, USS_RULE_OUTSIDE_LIMITS, 1, 2), "-101");
+    values[1] = 11;
+    expect(tells(uss_check_table(table, 24, values, 3), USS_BAD_VALUES, USS_RULE_OUTSIDE_LIMITS, 0, 1), "the first of two");
+    for (i = 0; i < sizeof slips / sizeof slips[0]; i++) {
+        memcpy(table, two_records, 24);
+        table[slips[i].at] = slips[i].byte;
+        table[slips[i].at + 1] = slips[i].next;
+        expect(tells(uss_check_table(table, 24, values, 3), USS_BAD_TABLE, slips[i].rule, 1, 0), "a slip in the second record");
+    }
+    for (i = 0; i < 513; i++) { /* record i: number i, 8 elements, 0 to 0 */
+        memset(many + 12 * i, 0, 12);
+        many[12 * i] = (uint8_t)(i / 128);
+        many[12 * i + 1] = (uint8_t)(i % 128 * 2);
+        many[12 * i + 2] = 2;
+    }
+    expect(tells(uss_check_table(many, 12 * 513, values, 3), USS_BAD_TABLE, USS_RULE_MANY_RECORDS, 512, 0), "513 records");
+    expect(tells(uss_check_table(many, 12 * 512, values, 3), USS_BAD_VALUES, USS_RULE_VALUE_COUNT, 512, 4096), "4096 places");
+    many[12 * 500 + 3] = 0x40;
+    expect(tells(uss_check_table(many, 12 * 512, values, 3), USS_BAD_TABLE, USS_RULE_MANY_PLACES, 511, 0), "4097 places");
+    puts("broken rules");
+}
+
 static void layouts(void)
 {
-    expect(sizeof(uss_setup) == 3 && sizeof(uss_words) == 8 && sizeof(uss_answer) == 16 && sizeof(uss_built) == 8 && sizeof(uss_reply) == 20, "sizes");
+    expect(sizeof(uss_setup) == 3 && sizeof(uss_words) == 8 && sizeof(uss_answer) == 16 && sizeof(uss_built) == 8 && sizeof(uss_reply) == 20
+           && sizeof(uss_table_check) == 16, "sizes");
     expect(offsetof(uss_answer, control) == 8 && offsetof(uss_reply, process) == 12, "places");
     puts("layouts");
 }
@@ -187,6 +250,7 @@ int main(void)
     short_buffers();
     lying_lengths();
     empty_slices();
+    broken_rules();
     if (!failed)
         puts("all as expected");
     return failed;

@@ -99,6 +99,7 @@ static void passes(void)
         }
     expect(uss_slave(setup, table, sizeof table, low, n, none, none, NULL, 0, reply, sizeof reply).number == USS_SHORT, "all at the minimum");
     expect(uss_slave(setup, table, sizeof table, high, n, none, none, NULL, 0, reply, sizeof reply).number == USS_SHORT, "all at the maximum");
+    expect(uss_check_table(table, sizeof table, low, n).number == 0 && uss_check_table(table, sizeof table, high, n).number == 0, "no rule is broken");
     expect(uss_slave(setup, table, sizeof table, low, n - 1, none, none, NULL, 0, reply, sizeof reply).number == USS_BAD_VALUES, "one value fewer");
     expect(USS_WORD_VALUE(-100) == 0xFF9C && USS_WORD_VALUE(65535) == 65535 && USS_WORD_VALUE(0) == 0, "values of words");
     puts("passes");

@@ -32,6 +32,15 @@ struct Reply {
     process: Words,
 }
 
+#[repr(C)]
+#[derive(Clone, Copy)]
+struct TableCheck {
+    number: u32,
+    rule: u32,
+    record: u32,
+    place: u32,
+}
+
 #[link(name = "uss_c", kind = "static")]
 extern "C" {
     fn uss_slave(
@@ -51,6 +60,7 @@ extern "C" {
     ) -> Reply;
     fn uss_list(received: *const u8, received_len: usize, out: *mut u8, out_len: usize) -> u32;
     fn uss_bcc(bytes: *const u8, len: usize) -> u8;
+    fn uss_check_table(table: *const u8, table_len: usize, values: *const u32, value_count: usize) -> TableCheck;
 }
 
 // ---- memory between two pages that may not be touched
@@ -689,6 +699,19 @@ impl Bench {
         }
         self.counts.met("bcc", 0);
     }
+
+    fn check_table(&mut self, d: &mut Dice, bytes: &[u8], numbers: &[u32]) {
+        let start = d.one_in(4);
+        let table = self.table.lend(bytes, start);
+        let values = self.values.lend(&numbers_to_bytes(numbers), start);
+        let c = unsafe { uss_check_table(table.at, table.len, values.at as *const u32, numbers.len()) };
+        let found = [c.number, c.rule, c.record, c.place];
+        let want = model::check_table(bytes, numbers);
+        if found != want || !table.untouched() || !values.untouched() {
+            differ("uss_check_table", format!("table {}\nvalues {numbers:X?}\n{found:?}, expected {want:?}", hex(bytes)));
+        }
+        self.counts.met("rule", want[1]);
+    }
 }
 
 fn any_room(d: &mut Dice) -> usize {
@@ -839,6 +862,19 @@ fn orders(b: &mut Bench, d: &mut Dice) {
     }
 }
 
+/// A table and its values, mostly with a slip or two.
+fn slips(b: &mut Bench, d: &mut Dice) {
+    let Drive { records, mut table, mut values, .. } = any_drive(d);
+    for _ in 0..d.below(3) {
+        if d.one_in(3) {
+            damage_values(d, &records, &mut values);
+        } else if table.len() == 12 * records.len() {
+            damage_table(d, &records, &mut table, &mut values);
+        }
+    }
+    b.check_table(d, &table, &values);
+}
+
 fn main() {
     let args: Vec<u64> = std::env::args().skip(1).map(|a| a.parse().expect("a number")).collect();
     let seed = args.first().copied().unwrap_or(20240601);
@@ -856,6 +892,7 @@ fn main() {
         sequence(&mut b, &mut d);
         conversation(&mut b, &mut d);
         orders(&mut b, &mut d);
+        slips(&mut b, &mut d);
         for _ in 0..4 {
             let n = d.below(320) as usize;
             let bytes = d.bytes(n);
@@ -864,7 +901,7 @@ fn main() {
         }
     }
     let c = &b.counts;
-    let calls: u64 = ["slave answer", "build task", "build mirror", "build broadcast", "read", "list", "bcc"].iter().map(|w| c.total(w)).sum();
+    let calls: u64 = ["slave answer", "build task", "build mirror", "build broadcast", "read", "list", "bcc", "rule"].iter().map(|w| c.total(w)).sum();
     println!("calls {calls}, of them {} of the slave", c.total("slave answer"));
     // floors hold for the default number of rounds and scale with it
     let floor = 1000 * rounds / 100_000;
@@ -881,6 +918,7 @@ fn main() {
     good &= c.report("read ID", &[0, 1, 2, 4, 5, 6, 7, 8], floor);
     good &= c.report("list", &[0, 1, 2, 10, 11, 12, 13, 14, 15, 99], floor);
     good &= c.report("bcc", &[0], floor);
+    good &= c.report("rule", &(0..12).collect::<Vec<u32>>(), floor);
     if calls < 1_000_000 && rounds >= 100_000 {
         println!("fewer than a million calls");
         good = false;

@@ -129,27 +129,33 @@ impl Record {
     }
 }
 
+/// A record's 12 bytes taken apart, and its spare bits.
+fn take_apart(c: &[u8]) -> (Record, u32) {
+    let long = |at: usize| u32::from_be_bytes([c[at], c[at + 1], c[at + 2], c[at + 3]]);
+    let head = long(0);
+    let r = Record {
+        number: head >> 17,
+        double: head >> 16 & 1 == 1,
+        signed: head >> 15 & 1 == 1,
+        writable: head >> 14 & 1 == 1,
+        elements: head >> 6 & 255,
+        min: long(4),
+        max: long(8),
+    };
+    (r, head & 63)
+}
+
 /// The records of a table, or none where it breaks a rule.
 pub fn records(table: &[u8]) -> Option<Vec<Record>> {
     if table.len() % 12 != 0 || table.len() / 12 > 512 {
         return None;
     }
-    let long = |c: &[u8]| u32::from_be_bytes([c[0], c[1], c[2], c[3]]);
     let mut found: Vec<Record> = Vec::with_capacity(table.len() / 12);
     for c in table.chunks(12) {
-        let head = long(c);
-        let r = Record {
-            number: head >> 17,
-            double: head >> 16 & 1 == 1,
-            signed: head >> 15 & 1 == 1,
-            writable: head >> 14 & 1 == 1,
-            elements: head >> 6 & 255,
-            min: long(&c[4..]),
-            max: long(&c[8..]),
-        };
+        let (r, spare) = take_apart(c);
         let rising = found.last().map_or(true, |before| before.number < r.number);
         let upper = !r.double && (r.min > 0xFFFF || r.max > 0xFFFF);
-        if head & 63 != 0 || !rising || r.number > 31999 || r.elements > 254 || upper || r.amount(r.min) > r.amount(r.max) {
+        if spare != 0 || !rising || r.number > 31999 || r.elements > 254 || upper || r.amount(r.min) > r.amount(r.max) {
             return None;
         }
         found.push(r);
@@ -163,6 +169,42 @@ pub fn records(table: &[u8]) -> Option<Vec<Record>> {
 fn values_good(records: &[Record], values: &[u32]) -> bool {
     let limits: Vec<&Record> = records.iter().flat_map(|r| std::iter::repeat(r).take(r.places())).collect();
     limits.len() == values.len() && limits.iter().zip(values).all(|(r, v)| r.takes(*v))
+}
+
+/// The first rule that a table and its values break, in the order of docs/TABLES.md: the answer's number, the rule, the record and the
+/// value's place; all 0 where none is broken.
+pub fn check_table(table: &[u8], values: &[u32]) -> [u32; 4] {
+    let whole = table.len() / 12;
+    if table.len() % 12 != 0 {
+        return [21, 1, whole.min(512) as u32, 0];
+    }
+    if whole > 512 {
+        return [21, 2, 512, 0];
+    }
+    let found: Vec<(Record, u32)> = table.chunks(12).map(take_apart).collect();
+    let mut owners: Vec<usize> = vec![];
+    for (k, (r, spare)) in found.iter().enumerate() {
+        owners.resize(owners.len() + r.places(), k);
+        let rules = [
+            (3, k > 0 && r.number <= found[k - 1].0.number),
+            (4, r.number > 31999),
+            (5, r.elements > 254),
+            (6, *spare != 0),
+            (7, !r.double && r.min.max(r.max) > 0xFFFF),
+            (8, r.amount(r.min) > r.amount(r.max)),
+            (9, owners.len() > 4096),
+        ];
+        if let Some((rule, _)) = rules.iter().find(|(_, broken)| *broken) {
+            return [21, *rule, k as u32, 0];
+        }
+    }
+    if owners.len() != values.len() {
+        return [22, 10, whole as u32, owners.len() as u32];
+    }
+    match (0..values.len()).find(|place| !found[owners[*place]].0.takes(values[*place])) {
+        Some(place) => [22, 11, owners[place] as u32, place as u32],
+        None => [0; 4],
+    }
 }
 
 // ---- tasks

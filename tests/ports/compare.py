@@ -88,7 +88,7 @@ def run(name, program, wanted, head):
 
 def reference(builder, head):
     """The stream of the archive that rt staticlib wrote for x86-64. Every check in it holds; every answer number, every parameter
-    error and every known telegram is one of them; every call of the header was made."""
+    error, every rule of a table and every known telegram is one of them; every call of the header was made."""
     own = os.path.join(ROOT, "target", "ports", "module", "libuss_c.a")
     program = builder.link("x86-64", builder.objects(X86), [own], "x86-64")
     with open(REFERENCE, "wb") as file:
@@ -101,7 +101,7 @@ def reference(builder, head):
         if what == 0:
             checks[contents[1:].decode()] = contents[0]
     broken = [name for name, holds in checks.items() if not holds]
-    wanted = [f"K{k}" for k in range(1, 13)] + [name for enum in ("uss_number", "uss_error") for name in head.constants[enum]]
+    wanted = [f"K{k}" for k in range(1, 13)] + [name for enum in ("uss_number", "uss_error", "uss_rule") for name in head.constants[enum]]
     missing = [name for name in wanted if name not in checks]
     missing += [name for name, count in made.items() if count < 1000 and name != "check"]
     if done.returncode != 0 or broken or missing:

@@ -155,6 +155,13 @@ static size_t put_table(uint32_t records, uint32_t elements)
     return count;
 }
 
+/* The slave call, and the check of its table and values. */
+static void serve_and_check(uint32_t records, size_t count, size_t len)
+{
+    serve(usual, records, count, len);
+    do_uss_check_table(table, 12 * records, values, count);
+}
+
 /* Tables about 512 records and 4096 values, cut ones, and each rule broken by one bit. */
 static void edges_of_tables(void)
 {
@@ -163,32 +170,34 @@ static void edges_of_tables(void)
     uint32_t i, k, bit;
     for (i = 0; i < 5; i++) {
         count = put_table(records[i], 0);
-        serve(usual, records[i], count, len);
-        serve(usual, records[i], count + 1, len);
-        serve(usual, records[i], count - (count > 0), len);
+        serve_and_check(records[i], count, len);
+        serve_and_check(records[i], count + 1, len);
+        serve_and_check(records[i], count - (count > 0), len);
     }
     for (i = 0; i < 3; i++) { /* 4095, 4096 and 4097 values */
         count = put_table(16, 254);
         put_record(16, 31000 + 998 + i, 0, WRITABLE, 31 + i, 0, 500); /* the numbers 31998, 31999 and 32000 */
         for (k = 0; k < 31 + i; k++)
             values[count++] = k;
-        serve(usual, 17, count, put_telegram(usual, 3, head_of(USS_READ_ELEMENT, 62 * 15, 253), 0, held));
-        serve(usual, 16, count - 31 - i, len);
+        serve_and_check(17, count, put_telegram(usual, 3, head_of(USS_READ_ELEMENT, 62 * 15, 253), 0, held));
+        serve_and_check(16, count - 31 - i, len);
         put_record(16, 31000, 0, WRITABLE, 31 + i, 0, 500);
-        serve(usual, 17, count, put_telegram(usual, 3, head_of(USS_CHANGE_ELEMENT_WORD, 31000, 30), 499, held));
+        serve_and_check(17, count, put_telegram(usual, 3, head_of(USS_CHANGE_ELEMENT_WORD, 31000, 30), 499, held));
     }
     for (i = 253; i < 256; i++) {
         count = put_table(2, i);
-        serve(usual, 2, count, len);
+        serve_and_check(2, count, len);
     }
     for (bit = 0; bit < 3 * 96; bit++) {
         count = put_table(3, 0);
         table[bit / 8] ^= (uint8_t)(1u << (bit & 7));
-        serve(usual, 3, count, put_telegram(usual, 3, head_of(USS_READ, 124, 0), 0, held));
+        serve_and_check(3, count, put_telegram(usual, 3, head_of(USS_READ, 124, 0), 0, held));
     }
     count = put_table(3, 0);
-    for (i = 0; i <= 37; i++)
+    for (i = 0; i <= 37; i++) {
         do_uss_slave(usual, table, i, values, i / 12, held, status, page, len, room, 256);
+        do_uss_check_table(table, i, values, i / 12);
+    }
 }
 
 /* Every selector with masks, words and areas about the limits; each built broadcast is also taken. */

@@ -116,6 +116,43 @@ static void known_broadcasts(void)
     check("K10", b.number == USS_DONE && a.number == USS_TAKEN && is_words(a.control, 0x047F, 0x1111, 0x2222, 0x3333));
 }
 
+/* Each rule of a table once, by its constant. */
+static uint32_t rule_of(uint32_t records, size_t count)
+{
+    return do_uss_check_table(table, 12 * records, values, count).rule;
+}
+
+static void known_rules(void)
+{
+    uint32_t k;
+    put_record(0, 1000, 0, WRITABLE, 2, 0, 10);
+    put_record(1, 1082, SIGNED, WRITABLE, 0, 0xFF9C, 100);
+    values[0] = 0;
+    values[1] = 10;
+    values[2] = 0xFF9C;
+    SEEN(USS_RULE_KEPT, rule_of(2, 3));
+    SEEN(USS_RULE_PART_RECORD, do_uss_check_table(table, 23, values, 3).rule);
+    SEEN(USS_RULE_VALUE_COUNT, rule_of(2, 2));
+    values[2] = 0xFF9B;
+    SEEN(USS_RULE_OUTSIDE_LIMITS, rule_of(2, 3));
+    table[15] |= 1;
+    SEEN(USS_RULE_SPARE_BIT, rule_of(2, 3));
+    put_record(1, 1000, SIGNED, WRITABLE, 0, 0xFF9C, 100);
+    SEEN(USS_RULE_NUMBER_ORDER, rule_of(2, 3));
+    put_record(1, 32000, SIGNED, WRITABLE, 0, 0xFF9C, 100);
+    SEEN(USS_RULE_HIGH_NUMBER, rule_of(2, 3));
+    put_record(1, 1082, SIGNED, WRITABLE, 255, 0xFF9C, 100);
+    SEEN(USS_RULE_MANY_ELEMENTS, rule_of(2, 3));
+    put_record(1, 1082, SIGNED, WRITABLE, 0, 0xFFFFFF9Cu, 100);
+    SEEN(USS_RULE_UPPER_HALF, rule_of(2, 3));
+    put_record(1, 1082, 0, WRITABLE, 0, 0xFF9C, 100);
+    SEEN(USS_RULE_LIMIT_ORDER, rule_of(2, 3));
+    for (k = 0; k < 513; k++)
+        put_record(k, k, 0, WRITABLE, k == 500 ? 9 : 8, 0, 0);
+    SEEN(USS_RULE_MANY_RECORDS, rule_of(513, 3));
+    SEEN(USS_RULE_MANY_PLACES, rule_of(512, 3));
+}
+
 static void known_values(void)
 {
     size_t i;

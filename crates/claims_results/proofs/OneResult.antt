@@ -29,6 +29,7 @@ use Rattle.entry.proofs.entry_ok.Reads as entry-entry-ok
 use Rattle.table.proofs.record_of.Reads as table-record-of
 use Rattle.table.proofs.find.Reads as table-find
 use Rattle.opening.proofs.«open».Reads as opening-open
+use Rattle.table_check.proofs.check_table.Reads as table-check-check-table
 use Rattle.area.proofs.empty_area.Reads as area-empty-area
 use Rattle.area.proofs.read_area.Reads as area-read-area
 use Rattle.area.proofs.read_process.Reads as area-read-process
@@ -72,6 +73,7 @@ use Rattle.uss_c.proofs.uss_build_broadcast.Reads as uss-build-broadcast
 use Rattle.uss_c.proofs.uss_read_reply.Reads as uss-read-reply
 use Rattle.uss_c.proofs.uss_list.Reads as uss-list
 use Rattle.uss_c.proofs.uss_bcc.Reads as uss-bcc
+use Rattle.uss_c.proofs.uss_check_table.Reads as uss-check-table
 use Rattle.claims_results.specs.OneResult.{OneResult, OneExit}
 
 -- what is equal to the same definition is equal
@@ -149,6 +151,9 @@ table-find-one κs a r r′ s s′ = equal-through
 
 pub opening-open-one : OneResult opening-open.Post
 opening-open-one κs a r r′ s s′ = equal-through
+
+pub table-check-check-table-one : OneResult table-check-check-table.Post
+table-check-check-table-one κs a r r′ s s′ = equal-through
 
 pub area-empty-area-one : OneResult area-empty-area.Post
 area-empty-area-one κs a r r′ s s′ = equal-through
@@ -348,3 +353,6 @@ uss-list-out κs a r r′ s s′ p p′ = equal-through (p .1) (p′ .1)
 
 pub uss-bcc-one : OneResult uss-bcc.Post
 uss-bcc-one κs a r r′ s s′ = equal-through
+
+pub uss-check-table-one : OneResult uss-check-table.Post
+uss-check-table-one κs a r r′ s s′ = equal-through

@@ -8,6 +8,7 @@ ghost use Rattle.slave.specs.Slave.{callOf};
 ghost use Rattle.master.specs.Build.{builtOf};
 ghost use Rattle.reply.specs.Reply.{readOf};
 ghost use Rattle.listing.specs.Listing.{listedOf};
+ghost use Rattle.table_check.specs.Checks.{tableCheckOf};
 ghost use Rattle.host_slave.specs.Host.{SlaveLeaves};
 ghost use Rattle.host_master.specs.Host.{BuildLeaves};
 ghost use Rattle.host_reply.specs.Host.{hostReply};
@@ -15,6 +16,7 @@ use host_master::HostBuilt;
 use host_reply::HostReply;
 use host_slave::HostAnswer;
 use setup::Setup;
+use table_check::TableCheck;
 use words::Words;
 
 #[no_mangle]
@@ -96,4 +98,11 @@ pub extern "C" fn uss_bcc(bytes: &[u8]) -> u8
     ensures { λ r. ⌜ r ≡ xorAll (now (bytes .entry)) ⌝ }
 {
     bcc::bcc(bytes)
+}
+
+#[no_mangle]
+pub extern "C" fn uss_check_table(table: &[u8], values: &[u32]) -> TableCheck
+    ensures { λ r. ⌜ r ≡ tableCheckOf (now (table .entry)) (now (values .entry)) ⌝ }
+{
+    table_check::check_table(table, values)
 }
