@@ -3,8 +3,8 @@
 # must-fail edits of its own crate (an `extern "C"` function, which hands on to another, at least one) and its own instances of
 # claims_results, one for the result and one for each slice lent for writing; every row names a function, and every edit of the
 # repository is named on the page, says in its second line at which fact it fails, and changes no proof. docs/PROMISES.md,
-# docs/DECISIONS.md, docs/DAMAGE.md, docs/HOUSE.md and docs/TABLES.md: each name that is given with its crate and file stands there. Exits 1 where
-# one of these does not hold.
+# docs/DECISIONS.md, docs/DAMAGE.md, docs/HOUSE.md and docs/TABLES.md: each name that is given with its crate and file stands there.
+# Exits 1 where one of these does not hold.
 set -euo pipefail
 cd "$(dirname "$0")/.."
 page=docs/PROMISES.md
