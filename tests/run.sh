@@ -1,7 +1,8 @@
 #!/usr/bin/env bash
 # Builds the library for C and runs everything that stands outside the proofs: what the archive offers and takes, the C test, the header
-# under C++, the texts for numbers, the examples and the demo against their stored output, what is told at a first run, and the
-# comparison with a second implementation on some millions of calls. Prints a line for each; exits 1 where one fails. Nothing is fetched.
+# under C++, its macros for tables and the page about them, the texts for numbers, the examples and the demo against their stored output,
+# what is told at a first run, and the comparison with a second implementation on some millions of calls. Prints a line for each; exits 1
+# where one fails. Nothing is fetched.
 #     tests/run.sh [SEED [ROUNDS]]      of the comparison
 set -euo pipefail
 cd "$(dirname "$(readlink -f "${BASH_SOURCE[0]}")")/.."

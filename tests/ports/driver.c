@@ -1,7 +1,7 @@
 /* Runs the library's calls on one machine and writes all that they give to a stream, which is to be the same on every machine: the
  * known telegrams of document 01, each answer number, parameter error and rule of a table, the edges of pages, limits, lengths, tables
- * and buffers,
- * and random calls of each function of uss.h. It needs no C library. calls.h, which follows from uss.h, lends, calls and writes.
+ * and buffers, and random calls of each function of uss.h. It needs no C library. calls.h, which follows from uss.h, lends, calls and
+ * writes.
  *
  * The stream is made of records: what it is (0 a check, else the call's place in uss.h), its length in four bytes, low first, and
  * its contents: of a check 0 or 1 and its name; of a call the fields of its answer, then for each slice that cannot be written
