@@ -1,4 +1,4 @@
-/* USS slave and master: a short English text for each answer number and each parameter error.
+/* USS slave and master: a short English text for each answer number, parameter error and rule of a table.
  *
  * Header only, for C99 and C++11. What is not called leaves no code and no text in the program; the archive has none of it. A text
  * is constant and ends with a 0 byte, has no line end, and starts in small letters, to stand after the number: "14: BCC wrong".
@@ -52,6 +52,26 @@ static inline const char *uss_error_text(uint32_t error)
     case USS_NEEDS_FOUR: return "double in an area of three words";
     case USS_NO_SUCH_TASK: return "no such task";
     default: return "other error";
+    }
+}
+
+/* The text of a rule of a table (enum uss_rule), as uss_check_table gives it; "no rule" for any other. */
+static inline const char *uss_rule_text(uint32_t rule)
+{
+    switch (rule) {
+    case USS_RULE_KEPT: return "none is broken";
+    case USS_RULE_PART_RECORD: return "not whole records of 12 bytes";
+    case USS_RULE_MANY_RECORDS: return "more than 512 records";
+    case USS_RULE_NUMBER_ORDER: return "number not over that of the record before it";
+    case USS_RULE_HIGH_NUMBER: return "number over 31999";
+    case USS_RULE_MANY_ELEMENTS: return "over 254 elements";
+    case USS_RULE_SPARE_BIT: return "a spare bit is set";
+    case USS_RULE_UPPER_HALF: return "a word's limit has an upper half";
+    case USS_RULE_LIMIT_ORDER: return "minimum over maximum";
+    case USS_RULE_MANY_PLACES: return "over 4096 places with this record";
+    case USS_RULE_VALUE_COUNT: return "not one value for each place";
+    case USS_RULE_OUTSIDE_LIMITS: return "a value outside its record's limits";
+    default: return "no rule";
     }
 }
 

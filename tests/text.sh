@@ -1,5 +1,5 @@
 #!/usr/bin/env bash
-# The texts of include/uss_text.h. Each value of both enums of include/uss.h, read from that header, has a text of its own; every
+# The texts of include/uss_text.h. Each value of the three enums of include/uss.h, read from that header, has a text of its own; every
 # other number up to 70000, and the largest, has the one text for none. The header compiles strictly as C99 and as C++11, where its
 # functions are used and where they are not, and leaves nothing in a program that does not use them. Exits 1 where one fails.
 #     tests/text.sh
@@ -21,12 +21,12 @@ names() {
     gcc -fpreprocessed -E -P include/uss.h | tr -d '\n' | grep -oE "enum $1 \{[^}]*\}" | grep -oE 'USS_[A-Z_0-9]+'
 }
 
-# driver: a program that prints a line "number N TEXT" or "error N TEXT" for each value, then one "none number|error N TEXT" for
+# driver: a program that prints a line "number N TEXT", "error N TEXT" or "rule N TEXT" for each value, then one "none KIND N TEXT" for
 # each number that is no value
 driver() {
     local kind
     printf '#include "uss_text.h"\n#include <stdio.h>\n'
-    for kind in number error; do
+    for kind in number error rule; do
         printf 'static const uint32_t %ss[] = {%s};\n' "$kind" "$(names "uss_$kind" | paste -sd,)"
     done
     cat <<'PROGRAM'
@@ -49,6 +49,7 @@ int main(void)
 {
     tell("number", numbers, sizeof numbers / sizeof numbers[0], uss_number_text);
     tell("error", errors, sizeof errors / sizeof errors[0], uss_error_text);
+    tell("rule", rules, sizeof rules / sizeof rules[0], uss_rule_text);
     return 0;
 }
 PROGRAM
@@ -83,4 +84,5 @@ cmp -s "$room/said.gcc" "$room/said.g++" || wrong 'C and C++ say different texts
 mv "$room/said.gcc" "$room/said"
 own number
 own error
+own rule
 exit "$failed"

@@ -44,7 +44,7 @@
 mod numbers;
 mod raw;
 
-pub use numbers::{Content, ParameterError, Refusal, Task};
+pub use numbers::{Content, ParameterError, Refusal, Rule, Task};
 
 /// A buffer for a reply or a built telegram has at least this many bytes, however short the telegram is.
 pub const BUFFER: usize = 256;
@@ -111,6 +111,20 @@ pub struct Served<'a> {
     pub answer: Answer<'a>,
     /// The control words to keep.
     pub control: Words,
+}
+
+/// The first thing at fault in a table or its values.
+#[derive(Clone, Copy, Debug, PartialEq, Eq, Hash)]
+pub struct TableFault {
+    /// [`Refusal::BadTable`] or [`Refusal::BadValues`], as a slave call would say.
+    pub refusal: Refusal,
+    /// The rule that is broken first.
+    pub rule: Rule,
+    /// The record at fault, from 0. With rule 1 how many whole records there are, at most 512; with rule 2 512; with rule 10 how many
+    /// records there are.
+    pub record: u32,
+    /// With rule 11 the place of the value, from 0; with rule 10 how many places the table has; else 0.
+    pub place: u32,
 }
 
 /// A task of a master, as it is built and as its reply is read. The default is task 0 with process words 0.
@@ -213,6 +227,29 @@ pub fn build_task(setup: Setup, request: Request, out: &mut [u8]) -> Result<&[u8
     // inside what is lent (docs/PROMISES.md, demand 1).
     let built = unsafe { raw::uss_build_task(setup, task as u8, parameter, index, value, process, out.as_mut_ptr(), out.len()) };
     telegram(built, out)
+}
+
+/// Looks at a table and its values, one rule after the other: for power-up and for tests.
+///
+/// ```
+/// use uss::{Refusal, Rule, TableFault};
+///
+/// // 1082, a signed word, writable, -100 to 100
+/// let mut table = [0x08, 0x74, 0xC0, 0x00, 0, 0, 0xFF, 0x9C, 0, 0, 0, 100];
+/// assert_eq!(uss::check_table(&table, &[5]), Ok(()));
+/// let fault = TableFault { refusal: Refusal::BadValues, rule: Rule::OutsideLimits, record: 0, place: 0 };
+/// assert_eq!(uss::check_table(&table, &[101]), Err(fault));
+/// table[2] = 0x40; // without the sign the minimum is 65436
+/// assert_eq!(uss::check_table(&table, &[5]).unwrap_err().rule, Rule::LimitOrder);
+/// ```
+pub fn check_table(table: &[u8], values: &[u32]) -> Result<(), TableFault> {
+    // SAFETY: pointers and counts are those of two slices; the call takes any bytes, numbers and counts, reads only inside what is lent
+    // and writes nothing (docs/PROMISES.md, demand 1).
+    let r = unsafe { raw::uss_check_table(table.as_ptr(), table.len(), values.as_ptr(), values.len()) };
+    match r.number {
+        0 => Ok(()),
+        number => Err(TableFault { refusal: Refusal::from(number), rule: Rule::from(r.rule), record: r.record, place: r.place }),
+    }
 }
 
 /// Builds a mirror telegram of 1 to 252 net bytes at the start of `out`, which has at least [`BUFFER`] bytes, and returns it.

@@ -102,6 +102,33 @@ numbers! {
     NoSuchTask = 106,
 }
 
+numbers! {
+    /// A rule of a table and its values (docs/TABLES.md of the repository), in the order in which they are looked at.
+    Rule:
+    /// The length is not whole records of 12 bytes.
+    PartRecord = 1,
+    /// More than 512 records.
+    ManyRecords = 2,
+    /// Number not over that of the record before it.
+    NumberOrder = 3,
+    /// Number over 31999.
+    HighNumber = 4,
+    /// Elements over 254.
+    ManyElements = 5,
+    /// A spare bit is set.
+    SpareBit = 6,
+    /// A word's limit has an upper half.
+    UpperHalf = 7,
+    /// Minimum over maximum.
+    LimitOrder = 8,
+    /// Over 4096 places with this record.
+    ManyPlaces = 9,
+    /// Another number of values than the table has places.
+    ValueCount = 10,
+    /// A value outside its record's limits.
+    OutsideLimits = 11,
+}
+
 /// What a master asks of a parameter. These are the tasks that can be asked: a number of another is refused by `try_from`.
 #[derive(Clone, Copy, Debug, Default, PartialEq, Eq, Hash)]
 #[repr(u8)]

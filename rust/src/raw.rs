@@ -23,11 +23,20 @@ pub struct Reply {
     pub process: Words,
 }
 
+#[repr(C)]
+pub struct TableCheck {
+    pub number: u32,
+    pub rule: u32,
+    pub record: u32,
+    pub place: u32,
+}
+
 extern "C" {
     pub fn uss_slave(
         setup: Setup, table: *const u8, table_len: usize, values: *mut u32, value_count: usize, control: Words, status: Words,
         received: *const u8, received_len: usize, reply: *mut u8, reply_len: usize,
     ) -> Answer;
+    pub fn uss_check_table(table: *const u8, table_len: usize, values: *const u32, value_count: usize) -> TableCheck;
     pub fn uss_build_task(
         setup: Setup, task: u8, parameter: u16, index: u8, value: u32, process: Words, out: *mut u8, out_len: usize,
     ) -> Built;
@@ -48,3 +57,4 @@ const _: () = assert!(core::mem::size_of::<Words>() == 8);
 const _: () = assert!(core::mem::size_of::<Answer>() == 16);
 const _: () = assert!(core::mem::size_of::<Built>() == 8);
 const _: () = assert!(core::mem::size_of::<Reply>() == 20);
+const _: () = assert!(core::mem::size_of::<TableCheck>() == 16);

@@ -2,7 +2,7 @@
 
 use std::collections::BTreeMap;
 
-use uss::{ParameterError, Refusal, Task};
+use uss::{ParameterError, Refusal, Rule, Task};
 
 const HEADER: &str = include_str!("../../include/uss.h");
 const RAW: &str = include_str!("../src/raw.rs");
@@ -117,6 +117,17 @@ fn parameter_errors_are_the_headers() {
         let name = known.get(&number).cloned().unwrap_or(format!("Other({number})"));
         assert_eq!(format!("{:?}", ParameterError::from(number)), name);
         assert_eq!(ParameterError::from(number).number(), number);
+    }
+}
+
+#[test]
+fn rules_are_the_headers() {
+    let mut known = numbers("uss_rule");
+    assert_eq!(known.remove(&0).unwrap(), "RuleKept");
+    for number in 0..0x1_0000 {
+        let name = known.get(&number).map_or(format!("Other({number})"), |name| name.trim_start_matches("Rule").to_string());
+        assert_eq!(format!("{:?}", Rule::from(number)), name);
+        assert_eq!(Rule::from(number).number(), number);
     }
 }
 
