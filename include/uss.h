@@ -241,7 +241,7 @@ uss_answer uss_slave(uss_setup setup, const uint8_t *table, size_t table_len, ui
                      uss_words control, uss_words status, const uint8_t *received, size_t received_len,
                      uint8_t *reply, size_t reply_len);
 
-/* Says which rule of docs/TABLES.md table and values break first, by which record and by which value: for power-up and for tests.
+/* Says which rule a table and its values break first, and where. The rules are those of docs/TABLES.md. For power-up and for tests.
  *
  * Numbers in test order: 21, 22, then 0.
  *
