@@ -878,7 +878,7 @@ fn slips(b: &mut Bench, d: &mut Dice) {
 fn main() {
     let args: Vec<u64> = std::env::args().skip(1).map(|a| a.parse().expect("a number")).collect();
     let seed = args.first().copied().unwrap_or(20240601);
-    let rounds = args.get(1).copied().unwrap_or(50_000);
+    let rounds = args.get(1).copied().unwrap_or(100_000);
     println!("seed {seed}, rounds {rounds}");
     let mut d = Dice(seed);
     let mut b = Bench {
@@ -919,7 +919,7 @@ fn main() {
     good &= c.report("list", &[0, 1, 2, 10, 11, 12, 13, 14, 15, 99], floor);
     good &= c.report("bcc", &[0], floor);
     good &= c.report("rule", &(0..12).collect::<Vec<u32>>(), floor);
-    if calls < 1_000_000 && rounds >= 50_000 {
+    if calls < 1_000_000 && rounds >= 100_000 {
         println!("fewer than a million calls");
         good = false;
     }
