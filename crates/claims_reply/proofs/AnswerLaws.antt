@@ -6,8 +6,8 @@ use native.Mathlib.Omega.{arith}
 use borrow.Author.Tests.{leb-true, ne-eqb}
 use lib.ListN.{getD}
 use Rattle.setup.proofs.SetupLaws.{Wide}
-use Rattle.entry.specs.Limits.{fitsIn}
-use Rattle.entry.proofs.LimitsLaws.{ok-ruled, within-fits}
+use Rattle.limits.specs.Limits.{fitsIn}
+use Rattle.limits.proofs.LimitsLaws.{ok-ruled, within-fits}
 use Rattle.table.specs.declared.Found.{Found}
 use Rattle.table.specs.declared.Found.the-variants.{At, Nothing as Nowhere}
 use Rattle.table.specs.Records.{entryAt, firstPlace}
@@ -17,7 +17,7 @@ use Rattle.opening.specs.Answers.{openingOf}
 use Rattle.opening.proofs.FoundLaws.{InTable, found-in-table}
 use Rattle.area.specs.declared.Area.{Area}
 use Rattle.page.specs.Page.{fullNumber}
-use Rattle.verdict.specs.declared.ParameterError.the-variants.{NoParameter}
+use Rattle.errors.specs.declared.ParameterError.the-variants.{NoParameter}
 use Rattle.verdict.specs.declared.Verdict.{Verdict}
 use Rattle.verdict.specs.declared.Verdict.the-variants.{Granted, Denied}
 use Rattle.task.proofs.TaskLaws.{task-row}

@@ -9,7 +9,7 @@ use Rattle.bcc.specs.Bcc.{xorAll}
 use Rattle.frame.specs.Frame.{frameOf}
 use Rattle.address.specs.Address.{addressOf}
 use Rattle.entry.specs.Fields.{entryOf, countOf}
-use Rattle.entry.specs.Limits.{numberOf, atMost, fitsIn, isWithin, entryOk}
+use Rattle.limits.specs.Limits.{numberOf, atMost, fitsIn, isWithin, entryOk}
 use Rattle.table.specs.Records.{entryAt, entriesFrom, entries, countsOf}
 use Rattle.opening.specs.declared.Opening.the-variants.{Passed}
 use Rattle.opening.specs.Rules.{risingFrom, eachOk, runOk, runsOk}

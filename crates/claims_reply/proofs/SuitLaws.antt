@@ -16,9 +16,10 @@ use Rattle.task.specs.declared.Act.{Act}
 use Rattle.task.specs.declared.Act.the-variants.{Nothing, Read, Change, Count, Refuse}
 use Rattle.task.specs.declared.Width.{Width}
 use Rattle.task.specs.declared.Width.the-variants.{Either, Word, Double}
-use Rattle.verdict.specs.declared.ParameterError.{ParameterError}
+use Rattle.errors.specs.declared.ParameterError.{ParameterError}
 use Rattle.task.specs.Task.{taskOf, readReply, isDoubleId, carried}
-use Rattle.verdict.specs.Verdict.{errorNumber, movesValue}
+use Rattle.errors.specs.ErrorNumbers.{errorNumber}
+use Rattle.verdict.specs.Verdict.{movesValue}
 use Rattle.task.proofs.TaskLaws.{IdOf, RowOf, read-id}
 use Rattle.deed.proofs.ReplyLaws.{MayReply, error-small, id-replies, count-replies, error-replies}
 use Rattle.deed.specs.Deed.{replyArea, errorArea, taskIn, elementIn, actDeed}

@@ -23,9 +23,9 @@ use Rattle.setup.proofs.area_count.Reads as setup-area-count
 use Rattle.setup.proofs.is_other_length.Reads as setup-is-other-length
 use Rattle.entry.proofs.entry_of.Reads as entry-entry-of
 use Rattle.entry.proofs.count_places.Reads as entry-count-places
-use Rattle.entry.proofs.at_most.Reads as entry-at-most
-use Rattle.entry.proofs.within.Reads as entry-within
-use Rattle.entry.proofs.entry_ok.Reads as entry-entry-ok
+use Rattle.limits.proofs.at_most.Reads as limits-at-most
+use Rattle.limits.proofs.within.Reads as limits-within
+use Rattle.limits.proofs.entry_ok.Reads as limits-entry-ok
 use Rattle.table.proofs.record_of.Reads as table-record-of
 use Rattle.table.proofs.find.Reads as table-find
 use Rattle.opening.proofs.«open».Reads as opening-open
@@ -39,7 +39,7 @@ use Rattle.page.proofs.page_of.Reads as page-page-of
 use Rattle.page.proofs.nibble_of.Reads as page-nibble-of
 use Rattle.page.proofs.full_number.Reads as page-full-number
 use Rattle.task.proofs.task_of.Reads as task-task-of
-use Rattle.verdict.proofs.number_error.Reads as verdict-number-error
+use Rattle.errors.proofs.number_error.Reads as errors-number-error
 use Rattle.verdict.proofs.judge.Reads as verdict-judge
 use Rattle.verdict.proofs.pick_element.Reads as verdict-pick-element
 use Rattle.deed.proofs.deny.Reads as deed-deny
@@ -134,14 +134,14 @@ entry-entry-of-one κs a r r′ s s′ = equal-through
 pub entry-count-places-one : OneResult entry-count-places.Post
 entry-count-places-one κs a r r′ s s′ = equal-through
 
-pub entry-at-most-one : OneResult entry-at-most.Post
-entry-at-most-one κs a r r′ s s′ = equal-through
+pub limits-at-most-one : OneResult limits-at-most.Post
+limits-at-most-one κs a r r′ s s′ = equal-through
 
-pub entry-within-one : OneResult entry-within.Post
-entry-within-one κs a r r′ s s′ = equal-through
+pub limits-within-one : OneResult limits-within.Post
+limits-within-one κs a r r′ s s′ = equal-through
 
-pub entry-entry-ok-one : OneResult entry-entry-ok.Post
-entry-entry-ok-one κs a r r′ s s′ = equal-through
+pub limits-entry-ok-one : OneResult limits-entry-ok.Post
+limits-entry-ok-one κs a r r′ s s′ = equal-through
 
 pub table-record-of-one : OneResult table-record-of.Post
 table-record-of-one κs a r r′ s s′ = equal-through
@@ -176,8 +176,8 @@ page-full-number-one κs a r r′ s s′ = equal-through
 pub task-task-of-one : OneResult task-task-of.Post
 task-task-of-one κs a r r′ s s′ = equal-through
 
-pub verdict-number-error-one : OneResult verdict-number-error.Post
-verdict-number-error-one κs a r r′ s s′ = equal-through
+pub errors-number-error-one : OneResult errors-number-error.Post
+errors-number-error-one κs a r r′ s s′ = equal-through
 
 pub verdict-judge-one : OneResult verdict-judge.Post
 verdict-judge-one κs a r r′ s s′ = equal-through

@@ -12,12 +12,12 @@ use Rattle.rows.proofs.RangeLaws.{between}
 use Rattle.area.specs.declared.Area.{Area}
 use Rattle.area.specs.Read.{areaAt}
 use Rattle.entry.specs.declared.Entry.{Entry}
-use Rattle.entry.specs.Limits.{fitsIn, isWithin}
-use Rattle.entry.proofs.LimitsLaws.{ok-ruled, within-fits}
+use Rattle.limits.specs.Limits.{fitsIn, isWithin}
+use Rattle.limits.proofs.LimitsLaws.{ok-ruled, within-fits}
 use Rattle.table.specs.Records.{entryAt, firstPlace}
 use Rattle.table.specs.declared.Found.{Found}
 use Rattle.table.specs.declared.Found.the-variants.{At, Nothing}
-use Rattle.verdict.specs.declared.ParameterError.the-variants.{NoParameter}
+use Rattle.errors.specs.declared.ParameterError.the-variants.{NoParameter}
 use Rattle.deed.specs.declared.Deed.{Deed}
 use Rattle.deed.specs.declared.Deed.the-variants.{Reply, Fetch, Write}
 use Rattle.deed.specs.Deed.{elementIn, deedOn}

@@ -93,10 +93,10 @@ pub fn is_bad(n: u8, asked: Question, area: Area) -> bool
     ensures { λ r. ⌜ r ≡ badReply n asked area ⌝ }
 {
     let reply_id = (area.pke / 4096) as u8;
-    if !is_known(asked.id, reply_id) {
+    if is_filled(asked.id, area) {
         return true;
     }
-    if is_filled(asked.id, area) {
+    if !is_known(asked.id, reply_id) {
         return true;
     }
     if is_cramped(n, reply_id) {

@@ -6,10 +6,10 @@ use native.Mathlib.Omega.{arith}
 use Rattle.area.specs.declared.Area.{Area}
 use Rattle.entry.specs.declared.Entry.{Entry}
 use Rattle.entry.specs.Fields.{countOf}
-use Rattle.entry.specs.Limits.{isWithin}
+use Rattle.limits.specs.Limits.{isWithin}
 use Rattle.task.specs.declared.Act.{Act}
 use Rattle.task.specs.declared.Act.the-variants.{Nothing, Read, Change, Count, Refuse}
-use Rattle.verdict.specs.declared.ParameterError.{ParameterError}
+use Rattle.errors.specs.declared.ParameterError.{ParameterError}
 use Rattle.verdict.specs.declared.Verdict.{Verdict}
 use Rattle.verdict.specs.declared.Verdict.the-variants.{Granted, Denied}
 use Rattle.task.specs.Task.{readReply}

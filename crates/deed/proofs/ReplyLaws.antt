@@ -18,12 +18,13 @@ use Rattle.task.specs.declared.Act.{Act}
 use Rattle.task.specs.declared.Act.the-variants.{Nothing, Read, Change, Count, Refuse}
 use Rattle.task.specs.declared.Width.{Width}
 use Rattle.task.specs.declared.Width.the-variants.{Either, Word, Double}
-use Rattle.verdict.specs.declared.ParameterError.{ParameterError}
-use Rattle.verdict.specs.declared.ParameterError.the-variants.{NoParameter, NotWritable, OutsideLimits, NoElement, NoArray, OtherWidth, NoRoom, NoTask}
+use Rattle.errors.specs.declared.ParameterError.{ParameterError}
+use Rattle.errors.specs.declared.ParameterError.the-variants.{NoParameter, NotWritable, OutsideLimits, NoElement, NoArray, OtherWidth, NoRoom, NoTask}
 use Rattle.verdict.specs.declared.Verdict.{Verdict}
 use Rattle.verdict.specs.declared.Verdict.the-variants.{Granted, Denied}
 use Rattle.task.specs.Task.{readReply, isDoubleId, carried}
-use Rattle.verdict.specs.Verdict.{errorNumber, refusesAct, changesAct, movesValue, differsWidth, lacksArray, lacksElement, verdictOf}
+use Rattle.errors.specs.ErrorNumbers.{errorNumber}
+use Rattle.verdict.specs.Verdict.{refusesAct, changesAct, movesValue, differsWidth, lacksArray, lacksElement, verdictOf}
 use Rattle.task.proofs.TaskLaws.{IdOf, RowOf, task-row, id-width, read-id}
 use Rattle.verdict.proofs.VerdictLaws.{granted-clear}
 use Rattle.deed.specs.declared.Deed.{Deed}

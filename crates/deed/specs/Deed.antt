@@ -17,12 +17,13 @@ use Rattle.entry.specs.Fields.{countOf}
 use Rattle.task.specs.declared.Task.{Task}
 use Rattle.task.specs.declared.Act.{Act}
 use Rattle.task.specs.declared.Act.the-variants.{Nothing, Read, Change, Count, Refuse}
-use Rattle.verdict.specs.declared.ParameterError.{ParameterError}
-use Rattle.verdict.specs.declared.ParameterError.the-variants.{NoTask}
+use Rattle.errors.specs.declared.ParameterError.{ParameterError}
+use Rattle.errors.specs.declared.ParameterError.the-variants.{NoTask}
 use Rattle.verdict.specs.declared.Verdict.{Verdict}
 use Rattle.verdict.specs.declared.Verdict.the-variants.{Granted, Denied}
 use Rattle.task.specs.Task.{taskOf, readReply, carried}
-use Rattle.verdict.specs.Verdict.{errorNumber, verdictOf, elementOf}
+use Rattle.errors.specs.ErrorNumbers.{errorNumber}
+use Rattle.verdict.specs.Verdict.{verdictOf, elementOf}
 use Rattle.deed.specs.declared.Deed.{Deed}
 use Rattle.deed.specs.declared.Deed.the-variants.{Reply, Fetch, Write}
 

@@ -8,10 +8,10 @@ ghost use Rattle.deed.specs.declared.Deed.the-variants.{Reply};
 ghost use Rattle.deed.specs.Deed.{replyArea, errorArea, taskIn, valueIn, elementIn, actDeed, deedOn};
 use area::Area;
 use entry::Entry;
+use errors::ParameterError;
 use task::Act;
 use task::Task;
 use task::Width;
-use verdict::ParameterError;
 use verdict::Verdict;
 
 // What is to be done: the reply's area as it stands, or with the element's value read into it, or with its value written to the element.
@@ -38,7 +38,7 @@ pub fn deny(area: Area, error: ParameterError) -> Deed
     ensures { λ r. ⌜ r ≡ Reply (errorArea area error) ⌝ }
 {
     Deed::Reply {
-        area: reply_area(area, 7, verdict::number_error(error) as u32),
+        area: reply_area(area, 7, errors::number_error(error) as u32),
     }
 }
 

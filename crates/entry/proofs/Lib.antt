@@ -1,4 +1,2 @@
 -- Laws of one record.
-pub mod SignsLaws
-pub mod LimitsLaws
-pub mod FitLaws
+pub mod CountLaws

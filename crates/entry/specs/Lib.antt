@@ -1,3 +1,2 @@
 -- One record of a parameter table by itself.
 pub mod Fields
-pub mod Limits

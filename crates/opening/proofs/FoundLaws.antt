@@ -11,7 +11,7 @@ use lib.Dec.{leb}
 use lib.ListN.{length, getD}
 use Rattle.rows.proofs.BoolLaws.{and-left, and-right}
 use Rattle.entry.specs.Fields.{countOf}
-use Rattle.entry.specs.Limits.{isWithin, entryOk}
+use Rattle.limits.specs.Limits.{isWithin, entryOk}
 use Rattle.entry.specs.declared.Entry.{Entry}
 use Rattle.table.specs.Records.{entryAt, entriesFrom, entries, findFrom, findIn, countsOf, firstPlace}
 use Rattle.table.specs.declared.Found.the-variants.{At}

@@ -11,7 +11,7 @@ use lib.Seq.{getD-set-same, getD-set-other}
 use Rattle.rows.proofs.BoolLaws.{and-left, and-right, and-both}
 use Rattle.entry.specs.declared.Entry.{Entry}
 use Rattle.entry.specs.Fields.{countOf}
-use Rattle.entry.specs.Limits.{isWithin}
+use Rattle.limits.specs.Limits.{isWithin}
 use Rattle.table.specs.Records.{entryAt, entriesFrom, entries, countsOf, firstPlace}
 use Rattle.table.proofs.RecordsLaws.{places-fit}
 use Rattle.opening.specs.declared.Opening.the-variants.{Passed}

@@ -10,7 +10,7 @@ use lib.ListN.{length, take, drop}
 use lib.Dec.{eqb, leb}
 use Rattle.entry.specs.declared.Entry.{Entry}
 use Rattle.entry.specs.Fields.{entryOf, countOf}
-use Rattle.entry.specs.Limits.{entryOk}
+use Rattle.limits.specs.Limits.{entryOk}
 use Rattle.table.specs.declared.Record.{Record}
 use Rattle.table.specs.Records.{recordOf, entries, entriesFrom, countsOf}
 use Rattle.table.proofs.RecordsLaws.{entries-step, entries-end, entry-part}

@@ -9,7 +9,7 @@ use lib.ListN.{length, getD}
 use lib.Dec.{eqb, leb}
 use Rattle.entry.specs.declared.Entry.{Entry}
 use Rattle.entry.specs.Fields.{countOf}
-use Rattle.entry.specs.Limits.{limitsOk, isWithin, entryOk}
+use Rattle.limits.specs.Limits.{limitsOk, isWithin, entryOk}
 use Rattle.opening.specs.Rules.{runOk}
 
 -- the step of the loop over a record's values, and its end

@@ -12,7 +12,7 @@ use lib.ListN.{length, getD}
 use lib.Dec.{eqb, leb}
 use Rattle.entry.specs.declared.Entry.{Entry}
 use Rattle.entry.specs.Fields.{countOf}
-use Rattle.entry.specs.Limits.{isWithin, entryOk}
+use Rattle.limits.specs.Limits.{isWithin, entryOk}
 use Rattle.table.specs.Records.{entries, countsOf}
 
 unfoldable pub risingFrom : ℕ → List Entry → Bool

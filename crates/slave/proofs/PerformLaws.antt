@@ -15,7 +15,7 @@ use Rattle.table.specs.declared.Found.the-variants.{At, Nothing}
 use Rattle.table.specs.Records.{findIn, entryAt, entries, firstPlace, countsOf}
 use Rattle.table.proofs.RecordsLaws.{found-below, places-fit, one-each}
 use Rattle.page.specs.Page.{baseOf, fullNumber, named}
-use Rattle.verdict.specs.declared.ParameterError.the-variants.{NoParameter}
+use Rattle.errors.specs.declared.ParameterError.the-variants.{NoParameter}
 use Rattle.deed.specs.declared.Deed.{Deed}
 use Rattle.deed.specs.declared.Deed.the-variants.{Reply, Fetch, Write}
 use Rattle.deed.specs.Deed.{errorArea, deedOn, DeedFits}

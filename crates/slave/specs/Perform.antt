@@ -21,7 +21,7 @@ use Rattle.table.specs.declared.Found.{Found}
 use Rattle.table.specs.declared.Found.the-variants.{At, Nothing}
 use Rattle.table.specs.Records.{entryAt, findIn, firstPlace}
 use Rattle.page.specs.Page.{fullNumber, named}
-use Rattle.verdict.specs.declared.ParameterError.the-variants.{NoParameter}
+use Rattle.errors.specs.declared.ParameterError.the-variants.{NoParameter}
 use Rattle.deed.specs.declared.Deed.{Deed}
 use Rattle.deed.specs.declared.Deed.the-variants.{Reply, Fetch, Write}
 use Rattle.deed.specs.Deed.{errorArea, deedOn}

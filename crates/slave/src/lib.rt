@@ -18,13 +18,13 @@ use area::Area;
 use control::Commanded;
 use deed::Deed;
 use entry::Entry;
+use errors::ParameterError;
 use opening::Opening;
 use setup::Setup;
 use slave_answers::Answer;
 use slave_answers::OpeningFault;
 use slave_answers::Refusal;
 use table::Found;
-use verdict::ParameterError;
 use words::Words;
 
 // What a call returns: its answer, the reply's length, and the control words afterwards.

@@ -13,7 +13,7 @@ use borrow.Author.Tests.{le-ltb, eq-eqb, ne-eqb, eqb-true, eqb-false}
 use Rattle.words.specs.Words.{byteAt, doubleAt, Bytes}
 use Rattle.entry.specs.declared.Entry.{Entry}
 use Rattle.entry.specs.Fields.{entryOf, countOf}
-use Rattle.entry.proofs.LimitsLaws.{count-le, count-ge}
+use Rattle.entry.proofs.CountLaws.{count-le, count-ge}
 use Rattle.table.specs.declared.Found.{Found}
 use Rattle.table.specs.declared.Found.the-variants.{At, Nothing}
 use Rattle.table.specs.Records.{recordOf, entryAt, entriesFrom, findFrom, countsOf}

@@ -11,8 +11,8 @@ use Rattle.rows.specs.Rows.{firstOf}
 use Rattle.rows.proofs.RowsLaws.{row-passed}
 use Rattle.entry.specs.declared.Entry.{Entry}
 use Rattle.entry.specs.Fields.{countOf}
-use Rattle.entry.specs.Limits.{fitsIn, atMost, isWithin}
-use Rattle.entry.proofs.FitLaws.{fits-word, word-unfit}
+use Rattle.limits.specs.Limits.{fitsIn, atMost, isWithin}
+use Rattle.limits.proofs.FitLaws.{fits-word, word-unfit}
 use Rattle.table.specs.Records.{entriesFrom, entries, countsOf}
 use Rattle.table.proofs.RecordsLaws.{count-at-le}
 use Rattle.table_check.specs.declared.Rule.{Rule}

@@ -3,7 +3,7 @@ use Prim.Native.Nat.{ℕ}
 use mathlib.Core.Path.{_≡_, refl}
 use mathlib.Core.List.{List, [], _∷_, _++_, map}
 use Rattle.entry.specs.Fields.{entryOf, countOf}
-use Rattle.entry.specs.Limits.{signedOf, numberOf, atMost, fitsIn, isWithin}
+use Rattle.limits.specs.Limits.{signedOf, numberOf, atMost, fitsIn, isWithin}
 use Rattle.table.specs.Records.{entryAt, entriesFrom, entries, countsOf}
 use Rattle.table_check.specs.declared.TableCheck.{TableCheck}
 use Rattle.table_check.specs.Checks.{told, orElse, recordRule, recordsCheck, runCheck, runsCheck, tableCheckOf}

@@ -14,7 +14,7 @@ use Rattle.rows.proofs.RowsLaws.{first-all}
 use Rattle.rows.proofs.BoolLaws.{and-left, and-right, leb-not-ltb}
 use Rattle.entry.specs.declared.Entry.{Entry}
 use Rattle.entry.specs.Fields.{countOf}
-use Rattle.entry.specs.Limits.{fitsIn, atMost, isWithin, entryOk}
+use Rattle.limits.specs.Limits.{fitsIn, atMost, isWithin, entryOk}
 use Rattle.table.specs.Records.{entriesFrom, entries, countsOf}
 use Rattle.opening.specs.Rules.{risingFrom, eachOk, runOk, runsOk, tableOk, valuesOk}
 use Rattle.opening.specs.Answers.{contentOf}

@@ -13,7 +13,7 @@ use lib.ListN.{length, getD}
 use Rattle.rows.proofs.BoolLaws.{and-left, and-right}
 use Rattle.entry.specs.declared.Entry.{Entry}
 use Rattle.entry.specs.Fields.{countOf}
-use Rattle.entry.specs.Limits.{isWithin}
+use Rattle.limits.specs.Limits.{isWithin}
 use Rattle.table.specs.Records.{entryAt, entriesFrom, entries, countsOf, firstPlace}
 use Rattle.opening.specs.Rules.{risingFrom, eachOk, runsOk, tableOk, valuesOk}
 use Rattle.table_check.specs.declared.Rule.the-variants.{Kept, ValueCount, OutsideLimits}

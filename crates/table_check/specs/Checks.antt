@@ -16,7 +16,7 @@ use lib.Dec.{ltb, eqb}
 use Rattle.rows.specs.Rows.{firstOf}
 use Rattle.entry.specs.declared.Entry.{Entry}
 use Rattle.entry.specs.Fields.{countOf}
-use Rattle.entry.specs.Limits.{fitsIn, atMost, isWithin}
+use Rattle.limits.specs.Limits.{fitsIn, atMost, isWithin}
 use Rattle.table.specs.Records.{entries, countsOf}
 use Rattle.table_check.specs.declared.Rule.{Rule}
 use Rattle.table_check.specs.declared.Rule.the-variants.{Kept, PartRecord, ManyRecords, NumberOrder, HighNumber, ManyElements, SpareBit, UpperHalf, LimitOrder, ManyPlaces, ValueCount, OutsideLimits}

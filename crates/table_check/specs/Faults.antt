@@ -11,7 +11,7 @@ use mathlib.Core.Bool.{true, false}
 use lib.ListN.{length, getD}
 use Rattle.slave_answers.specs.SlaveNumbers.{openingNumber}
 use Rattle.entry.specs.Fields.{countOf}
-use Rattle.entry.specs.Limits.{isWithin}
+use Rattle.limits.specs.Limits.{isWithin}
 use Rattle.table.specs.Records.{entryAt, firstPlace}
 use Rattle.opening.specs.declared.Opening.{Opening}
 use Rattle.opening.specs.declared.Opening.the-variants.{Passed, Closed}

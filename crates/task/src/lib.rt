@@ -2,6 +2,7 @@
 ghost use mathlib.Core.Path.{_≡_};
 ghost use mathlib.Core.Bool.{cond};
 ghost use Rattle.task.specs.Task.{taskRow, taskOf};
+ghost use Rattle.task.specs.declared.Act.the-variants.{Count, Refuse};
 ghost use Rattle.task.specs.declared.Width.the-variants.{Word, Double};
 
 // What is to be done. Refuse is for the task IDs that error 106 answers.
@@ -48,6 +49,13 @@ fn width_of(word: bool) -> Width
     if word { Width::Word } else { Width::Double }
 }
 
+// A count of elements, or a task that is refused.
+fn count_if(counts: bool) -> Act
+    ensures { λ r. ⌜ r ≡ cond counts Count Refuse ⌝ }
+{
+    if counts { Act::Count } else { Act::Refuse }
+}
+
 // What the task ID asks; IDs over 15 do not occur and are refused like 15.
 pub fn task_of(id: u8) -> Task
     ensures { λ r. ⌜ r ≡ taskOf id ⌝ }
@@ -58,7 +66,7 @@ pub fn task_of(id: u8) -> Task
         2..=3 => row(Act::Change, width_of(id == 2), false, id - 1),
         6..=6 => row(Act::Read, Width::Either, true, 4),
         7..=8 => row(Act::Change, width_of(id == 7), true, id - 3),
-        9..=9 => row(Act::Count, Width::Either, false, 6),
+        9..=10 => row(count_if(id == 9), Width::Either, false, id - 3),
         11..=12 => row(Act::Change, width_of(id == 12), true, 16 - id),
         13..=14 => row(Act::Change, width_of(id == 14), false, 15 - id),
         _ => row(Act::Refuse, Width::Either, false, 7),

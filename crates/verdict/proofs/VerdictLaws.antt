@@ -11,7 +11,7 @@ use Rattle.rows.specs.Rows.{firstOf, Each}
 use Rattle.rows.proofs.RowsLaws.{row-passed}
 use Rattle.entry.specs.declared.Entry.{Entry}
 use Rattle.entry.specs.Fields.{countOf}
-use Rattle.entry.specs.Limits.{isWithin}
+use Rattle.limits.specs.Limits.{isWithin}
 use Rattle.task.specs.declared.Act.{Act}
 use Rattle.task.specs.declared.Act.the-variants.{Read, Change}
 use Rattle.task.specs.declared.Width.the-variants.{Either}

@@ -1,7 +1,6 @@
 -- The errors of a task on a parameter (document 01, Parameter area), in the document's order; the first that applies counts.
 -- Of a task k with its index, and the value v that it carries, in an area of n words, on the record e of a parameter. Error 0 is given
 -- where no record is found.
---     errorNumber error                  the document's number of an error
 --     refusesAct act                     whether error 106 answers
 --     changesAct act, movesValue act     whether it is a change; whether it is a read or a change
 --     differsWidth width double          whether a word task meets a double parameter or the reverse
@@ -14,26 +13,16 @@ use mathlib.Core.List.{List, [], _∷_}
 use lib.Dec.{eqb, ltb, leb}
 use Rattle.rows.specs.Rows.{firstOf}
 use Rattle.entry.specs.declared.Entry.{Entry}
-use Rattle.entry.specs.Limits.{isWithin}
+use Rattle.limits.specs.Limits.{isWithin}
 use Rattle.task.specs.declared.Task.{Task}
 use Rattle.task.specs.declared.Act.{Act}
 use Rattle.task.specs.declared.Act.the-variants.{Nothing, Read, Change, Count, Refuse}
 use Rattle.task.specs.declared.Width.{Width}
 use Rattle.task.specs.declared.Width.the-variants.{Either, Word, Double}
-use Rattle.verdict.specs.declared.ParameterError.{ParameterError}
-use Rattle.verdict.specs.declared.ParameterError.the-variants.{NoParameter, NotWritable, OutsideLimits, NoElement, NoArray, OtherWidth, NoRoom, NoTask}
+use Rattle.errors.specs.declared.ParameterError.{ParameterError}
+use Rattle.errors.specs.declared.ParameterError.the-variants.{NoParameter, NotWritable, OutsideLimits, NoElement, NoArray, OtherWidth, NoRoom, NoTask}
 use Rattle.verdict.specs.declared.Verdict.{Verdict}
 use Rattle.verdict.specs.declared.Verdict.the-variants.{Granted, Denied}
-
-abbrev pub errorNumber : ParameterError → ℕ
-errorNumber NoParameter = 0
-errorNumber NotWritable = 1
-errorNumber OutsideLimits = 2
-errorNumber NoElement = 3
-errorNumber NoArray = 4
-errorNumber OtherWidth = 5
-errorNumber NoRoom = 102
-errorNumber NoTask = 106
 
 abbrev pub refusesAct : Act → Bool
 refusesAct Nothing = false

@@ -5,43 +5,16 @@ ghost use mathlib.Core.Bool.{false};
 ghost use Rattle.task.specs.Task.{taskRow};
 ghost use Rattle.task.specs.declared.Act.the-variants.{Read, Change};
 ghost use Rattle.task.specs.declared.Width.the-variants.{Either};
-ghost use Rattle.verdict.specs.Verdict.{refusesAct, differsWidth, verdictOf, errorNumber, elementOf};
+ghost use Rattle.verdict.specs.Verdict.{refusesAct, differsWidth, verdictOf, elementOf};
 use entry::Entry;
+use errors::ParameterError;
 use task::Act;
 use task::Task;
 use task::Width;
 
-// Why a task on a parameter fails, one case for each error number.
-pub enum ParameterError {
-    NoParameter,
-    NotWritable,
-    OutsideLimits,
-    NoElement,
-    NoArray,
-    OtherWidth,
-    NoRoom,
-    NoTask,
-}
-
 pub enum Verdict {
     Granted,
     Denied(ParameterError),
-}
-
-// The document's number of an error.
-pub fn number_error(error: ParameterError) -> u8
-    ensures { λ r. ⌜ r ≡ errorNumber error ⌝ }
-{
-    match error {
-        ParameterError::NoParameter => 0,
-        ParameterError::NotWritable => 1,
-        ParameterError::OutsideLimits => 2,
-        ParameterError::NoElement => 3,
-        ParameterError::NoArray => 4,
-        ParameterError::OtherWidth => 5,
-        ParameterError::NoRoom => 102,
-        ParameterError::NoTask => 106,
-    }
 }
 
 fn refuses(act: Act) -> bool
@@ -94,7 +67,7 @@ fn judge_change(n: u8, width: Width, e: Entry, value: u32) -> Verdict
     if !e.writable {
         return Verdict::Denied(ParameterError::NotWritable);
     }
-    if !entry::within(e, value) {
+    if !limits::within(e, value) {
         return Verdict::Denied(ParameterError::OutsideLimits);
     }
     Verdict::Granted

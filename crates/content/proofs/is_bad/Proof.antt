@@ -30,14 +30,14 @@ fitting c =
     let else3 : tie.Else3 = search in
     let cramped : tie.After-is-cramped = search in
     let else2 : tie.Else2 = search in
-    let filled : tie.After-is-filled = search in
-    let else1 : tie.Else1 = search in
     let known : tie.After-is-known = search in
+    let else1 : tie.Else1 = search in
+    let filled : tie.After-is-filled = search in
     let start : tie.Start = search in
     let a = start .args in
     record {
-      id-known = sym (known .is-known .ensures) ∙ not-false _ (else1 .if1 .left);
-      zero-kept = sym (filled .is-filled .ensures) ∙ else2 .if2 .left;
+      id-known = sym (known .is-known .ensures) ∙ not-false _ (else2 .if2 .left);
+      zero-kept = sym (filled .is-filled .ensures) ∙ else1 .if1 .left;
       room = sym (cramped .is-cramped .ensures) ∙ else3 .if3 .left;
       base = else4 .if4 .left;
       page = else5 .if5 .left ∙ nibble .nibble-of .ensures;
@@ -58,27 +58,27 @@ decided c =
 cast-reply-id : tie.Need-cast-reply-id
 cast-reply-id c = search needs
 
-is-known-requires : tie.Need-is-known-requires
-is-known-requires c κs = search needs
+is-filled-requires : tie.Need-is-filled-requires
+is-filled-requires c κs = search needs
 
 returns : tie.Need-returns
 unfolding badRows
 returns c =
-    let known : tie.After-is-known = search in
+    let filled : tie.After-is-filled = search in
     let start : tie.Start = search in
     let a = start .args in
-    sym (bad-by (a .n) (a .asked) (a .area) 0 (rw (← (known .is-known .ensures)) (c .if1 .taken)))
+    sym (bad-by (a .n) (a .asked) (a .area) 1 (sym (filled .is-filled .ensures) ∙ c .if1 .taken))
 
-is-filled-requires : tie.Need-is-filled-requires
-is-filled-requires c κs = search needs
+is-known-requires : tie.Need-is-known-requires
+is-known-requires c κs = search needs
 
 returns-2 : tie.Need-returns-2
 unfolding badRows
 returns-2 c =
-    let filled : tie.After-is-filled = search in
+    let known : tie.After-is-known = search in
     let start : tie.Start = search in
     let a = start .args in
-    sym (bad-by (a .n) (a .asked) (a .area) 1 (sym (filled .is-filled .ensures) ∙ c .if2 .taken))
+    sym (bad-by (a .n) (a .asked) (a .area) 0 (rw (← (known .is-known .ensures)) (c .if2 .taken)))
 
 is-cramped-requires : tie.Need-is-cramped-requires
 is-cramped-requires c κs = search needs
@@ -163,9 +163,9 @@ is-bad-spec =
     tie.close
     (tie.spec
     cast-reply-id
-    is-known-requires
-    returns
     is-filled-requires
+    returns
+    is-known-requires
     returns-2
     is-cramped-requires
     returns-3

@@ -5,7 +5,7 @@ use Rattle.deed.proofs.deny.Tie as tie
 use Rattle.deed.proofs.deny.Reads as reads
 use Rattle.deed.proofs.deny.Lts as lts
 use Rattle.deed.proofs.reply_area.Reads as reply-area-reads
-use Rattle.verdict.proofs.number_error.Reads as number-error-reads
+use Rattle.errors.proofs.number_error.Reads as number-error-reads
 
 number-error-requires : tie.Need-number-error-requires
 number-error-requires c κs = search needs

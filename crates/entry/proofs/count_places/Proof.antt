@@ -1,5 +1,5 @@
 -- `entry::count_places` meets its contract. Assumes nothing.
-use Rattle.entry.proofs.LimitsLaws.{count-none, count-some}
+use Rattle.entry.proofs.CountLaws.{count-none, count-some}
 use mathlib.Core.Path.{sym}
 use borrow.Author.Needs.{needs}
 use Rattle.entry.proofs.count_places.Statement.{statement}

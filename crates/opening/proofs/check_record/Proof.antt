@@ -4,7 +4,7 @@ use mathlib.Core.Path.{_≡_, refl}
 use native.Mathlib.Omega.{arith}
 use denote.Ref.{now}
 use Rattle.entry.specs.Fields.{entryOf}
-use Rattle.entry.proofs.LimitsLaws.{count-none, count-some}
+use Rattle.entry.proofs.CountLaws.{count-none, count-some}
 use Rattle.opening.proofs.RecordLaws.{elements-over, spare-set, plain-limits, fine-broken, fine-run}
 use borrow.Author.Needs.{needs}
 use Rattle.opening.proofs.check_record.Statement.{statement}

@@ -2,14 +2,14 @@
 use mathlib.Core.Path.{sym, _∙_}
 use borrow.Author.Tests.{not-true}
 use Rattle.rows.proofs.BoolLaws.{first-fails, second-fails}
-use Rattle.entry.specs.Limits.{fitsIn, atMost, isWithin}
-use Rattle.entry.proofs.FitLaws.{limits-shown, between-shown, fits-double, fits-word, word-unfit}
+use Rattle.limits.specs.Limits.{fitsIn, atMost, isWithin}
+use Rattle.limits.proofs.FitLaws.{limits-shown, between-shown, fits-double, fits-word, word-unfit}
 use borrow.Author.Needs.{needs}
 use Rattle.opening.proofs.holds.Statement.{statement}
 use Rattle.opening.proofs.holds.Tie as tie
 use Rattle.opening.proofs.holds.Reads as reads
 use Rattle.opening.proofs.holds.Lts as lts
-use Rattle.entry.proofs.within.Reads as within-reads
+use Rattle.limits.proofs.within.Reads as within-reads
 use Rattle.opening.proofs.hold_both.Reads as hold-both-reads
 
 within-requires : tie.Need-within-requires

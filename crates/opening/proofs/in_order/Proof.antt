@@ -10,7 +10,7 @@ use lib.ListN.{length}
 use denote.Ref.{now}
 use Rattle.entry.specs.declared.Entry.{Entry}
 use Rattle.entry.specs.Fields.{entryOf, countOf}
-use Rattle.entry.proofs.LimitsLaws.{count-le}
+use Rattle.entry.proofs.CountLaws.{count-le}
 use Rattle.table.specs.declared.Record.{Record}
 use Rattle.opening.specs.Rules.{tableOk, valuesOk}
 use Rattle.opening.proofs.RecordLaws.{fineOf}

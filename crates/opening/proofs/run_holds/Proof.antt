@@ -8,7 +8,7 @@ use borrow.Author.Needs.{needs}
 use borrow.Author.Tests.{le-leb, lt-leb}
 use denote.Ref.{now}
 use lib.ListN.{length}
-use Rattle.entry.specs.Limits.{limitsOk}
+use Rattle.limits.specs.Limits.{limitsOk}
 use Rattle.opening.specs.Rules.{runOk}
 use Rattle.opening.proofs.RecordLaws.{run-on, run-end, value-shows, run-all, run-short}
 use Rattle.opening.proofs.run_holds.Statement.{statement}

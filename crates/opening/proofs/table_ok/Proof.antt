@@ -9,7 +9,7 @@ use borrow.Author.Tests.{not-true, not-false}
 use denote.Ref.{now}
 use Rattle.entry.specs.declared.Entry.{Entry}
 use Rattle.entry.specs.Fields.{countOf}
-use Rattle.entry.proofs.LimitsLaws.{ok-ruled}
+use Rattle.limits.proofs.LimitsLaws.{ok-ruled}
 use Rattle.table.specs.Records.{entryAt, entriesFrom}
 use Rattle.table.proofs.RecordsLaws.{entries-step, entries-end, count-at-le}
 use Rattle.opening.specs.Rules.{tableOk}
@@ -20,7 +20,7 @@ use Rattle.opening.proofs.table_ok.Reads as reads
 use Rattle.opening.proofs.table_ok.Lts as lts
 use Rattle.entry.proofs.count_places.Reads as count-places-reads
 use Rattle.entry.proofs.entry_of.Reads as entry-of-reads
-use Rattle.entry.proofs.entry_ok.Reads as entry-ok-reads
+use Rattle.limits.proofs.entry_ok.Reads as entry-ok-reads
 use Rattle.opening.proofs.record_at.Reads as record-at-reads
 
 abbrev Inv-loop : tie.InvT-loop

@@ -4,7 +4,7 @@ use native.Mathlib.Omega.{arith}
 use denote.Ref.{now}
 use lib.ListN.{length}
 use borrow.Author.Tests.{lt-leb}
-use Rattle.entry.specs.Limits.{limitsOk}
+use Rattle.limits.specs.Limits.{limitsOk}
 use Rattle.opening.specs.Rules.{runOk}
 use Rattle.opening.proofs.RecordLaws.{run-short, run-one}
 use borrow.Author.Needs.{needs}

@@ -13,7 +13,7 @@ use Rattle.table_check.proofs.check_run.Statement.{statement}
 use Rattle.table_check.proofs.check_run.Tie as tie
 use Rattle.table_check.proofs.check_run.Reads as reads
 use Rattle.table_check.proofs.check_run.Lts as lts
-use Rattle.entry.proofs.within.Reads as within-reads
+use Rattle.limits.proofs.within.Reads as within-reads
 use Rattle.table_check.proofs.tell.Reads as tell-reads
 
 abbrev Inv-loop : tie.InvT-loop

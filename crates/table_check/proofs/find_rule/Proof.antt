@@ -14,7 +14,7 @@ use Rattle.table_check.proofs.find_rule.Statement.{statement}
 use Rattle.table_check.proofs.find_rule.Tie as tie
 use Rattle.table_check.proofs.find_rule.Reads as reads
 use Rattle.table_check.proofs.find_rule.Lts as lts
-use Rattle.entry.proofs.at_most.Reads as at-most-reads
+use Rattle.limits.proofs.at_most.Reads as at-most-reads
 use Rattle.entry.proofs.count_places.Reads as count-places-reads
 use Rattle.table_check.proofs.has_upper_half.Reads as has-upper-half-reads
 

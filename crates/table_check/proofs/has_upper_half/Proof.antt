@@ -1,5 +1,5 @@
 -- `table_check::has_upper_half` meets its contract. Assumes nothing.
-use Rattle.entry.specs.Limits.{fitsIn}
+use Rattle.limits.specs.Limits.{fitsIn}
 use Rattle.table_check.proofs.CheckLaws.{low-upper, high-upper}
 use Rattle.rows.proofs.RowsLaws.{tests}
 use Rattle.table_check.proofs.has_upper_half.Statement.{statement}

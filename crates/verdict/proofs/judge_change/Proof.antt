@@ -11,7 +11,7 @@ use Rattle.verdict.proofs.judge_change.Statement.{statement}
 use Rattle.verdict.proofs.judge_change.Tie as tie
 use Rattle.verdict.proofs.judge_change.Reads as reads
 use Rattle.verdict.proofs.judge_change.Lts as lts
-use Rattle.entry.proofs.within.Reads as within-reads
+use Rattle.limits.proofs.within.Reads as within-reads
 use Rattle.verdict.proofs.differs.Reads as differs-reads
 
 -- 5 does not apply

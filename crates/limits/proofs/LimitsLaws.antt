@@ -1,42 +1,14 @@
--- Laws of a record's places and limits, and worked numbers. Assumes nothing.
-use Prim.Native.Nat.{ℕ, _+_, _/_, _%_, _≤_}
+-- Laws of a record's limits, and worked numbers. Assumes nothing.
+use Prim.Native.Nat.{ℕ, _≤_}
 use mathlib.Core.Path.{_≡_, refl}
 use mathlib.Core.List.{[], _∷_, map}
-use mathlib.Core.Bool.{Bool, true, false, cond, _&&_}
-use native.Mathlib.Omega.{arith}
-use lib.Dec.{eqb, leb, lit≤}
+use mathlib.Core.Bool.{true, false, _&&_}
+use lib.Dec.{eqb, leb}
 use lib.IntN.{pos, negsuc}
-use borrow.Author.Tests.{le-leb, eq-eqb, ne-eqb, leb-true, eqb-true, eqb-false}
+use borrow.Author.Tests.{le-leb, eq-eqb, leb-true, eqb-true}
 use Rattle.rows.proofs.BoolLaws.{and-left, and-right, and-both}
 use Rattle.entry.specs.declared.Entry.{Entry}
-use Rattle.entry.specs.Fields.{entryOf, countOf}
-use Rattle.entry.specs.Limits.{signedOf, atMost, fitsIn, isWithin, limitsOk, entryOk}
-
--- the places of a record
-pub count-none : (e : Entry) → e .elements ≡ 0 → countOf e ≡ 1
-unfolding countOf
-count-none e h = simp (eq-eqb _ _ h)
-
-pub count-some : (e : Entry) → (e .elements ≡ 0 → ⊥) → countOf e ≡ e .elements
-unfolding countOf
-count-some e h = simp (ne-eqb _ _ h)
-
-cond-bounds : (x m : ℕ) → 1 ≤ m → x ≤ m → (b : Bool) → eqb x 0 ≡ b → (1 ≤ cond b 1 x) × (cond b 1 x ≤ m)
-cond-bounds x m o h true e = (lit≤ tt, o)
-cond-bounds x m o h false e = (omega (arith, eqb-false x 0 e), h)
-
--- the head's eight bits count at most 255
-pub count-le : (head lo hi : ℕ) → countOf (entryOf head lo hi) ≤ 255
-unfolding countOf entryOf
-count-le head lo hi =
-    let x = head / 64 % 256 in
-    let h : x ≤ 255 = omega arith in
-    cond-bounds x 255 (lit≤ tt) h (eqb x 0) refl .1
-
--- and at least one place
-pub count-ge : (e : Entry) → 1 ≤ countOf e
-unfolding countOf
-count-ge e = let x = e .elements in cond-bounds x (x + 1) (omega arith) (omega arith) (eqb x 0) refl .0
+use Rattle.limits.specs.Limits.{signedOf, atMost, fitsIn, isWithin, limitsOk, entryOk}
 
 -- the facts of a record that keeps the rules, both ways
 pub record Ruled (e : Entry) : Type 0 where

@@ -1,13 +1,13 @@
--- `entry::within` meets its contract. Assumes nothing.
+-- `limits::within` meets its contract. Assumes nothing.
 use mathlib.Core.Path.{sym, _∙_}
-use Rattle.entry.specs.Limits.{isWithin}
+use Rattle.limits.specs.Limits.{isWithin}
 use borrow.Author.Needs.{needs}
-use Rattle.entry.proofs.within.Statement.{statement}
-use Rattle.entry.proofs.within.Tie as tie
-use Rattle.entry.proofs.within.Reads as reads
-use Rattle.entry.proofs.within.Lts as lts
-use Rattle.entry.proofs.at_most.Reads as at-most-reads
-use Rattle.entry.proofs.fits_in.Reads as fits-in-reads
+use Rattle.limits.proofs.within.Statement.{statement}
+use Rattle.limits.proofs.within.Tie as tie
+use Rattle.limits.proofs.within.Reads as reads
+use Rattle.limits.proofs.within.Lts as lts
+use Rattle.limits.proofs.at_most.Reads as at-most-reads
+use Rattle.limits.proofs.fits_in.Reads as fits-in-reads
 
 fits-in-requires : tie.Need-fits-in-requires
 fits-in-requires c κs = search needs

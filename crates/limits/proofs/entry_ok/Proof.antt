@@ -1,14 +1,14 @@
--- `entry::entry_ok` meets its contract. Assumes nothing.
+-- `limits::entry_ok` meets its contract. Assumes nothing.
 use mathlib.Core.Path.{sym, _∙_}
 use Rattle.rows.proofs.RowsLaws.{tests}
-use Rattle.entry.specs.Limits.{entryOk}
+use Rattle.limits.specs.Limits.{entryOk}
 use borrow.Author.Needs.{needs}
-use Rattle.entry.proofs.entry_ok.Statement.{statement}
-use Rattle.entry.proofs.entry_ok.Tie as tie
-use Rattle.entry.proofs.entry_ok.Reads as reads
-use Rattle.entry.proofs.entry_ok.Lts as lts
-use Rattle.entry.proofs.at_most.Reads as at-most-reads
-use Rattle.entry.proofs.fits_in.Reads as fits-in-reads
+use Rattle.limits.proofs.entry_ok.Statement.{statement}
+use Rattle.limits.proofs.entry_ok.Tie as tie
+use Rattle.limits.proofs.entry_ok.Reads as reads
+use Rattle.limits.proofs.entry_ok.Lts as lts
+use Rattle.limits.proofs.at_most.Reads as at-most-reads
+use Rattle.limits.proofs.fits_in.Reads as fits-in-reads
 
 returns : tie.Need-returns
 unfolding entryOk

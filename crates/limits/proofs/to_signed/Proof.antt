@@ -1,14 +1,14 @@
--- `entry::to_signed` meets its contract. Assumes nothing.
+-- `limits::to_signed` meets its contract. Assumes nothing.
 use Prim.Native.Nat.{_-_, _%_}
 use native.Mathlib.Omega.{arith}
 use mir.Syntax.{w32}
-use Rattle.entry.specs.Limits.{signedOf}
-use Rattle.entry.proofs.SignsLaws.{flip-fits, flip-is, flip-word-fits, word-fits-less, word-back}
+use Rattle.limits.specs.Limits.{signedOf}
+use Rattle.limits.proofs.SignsLaws.{flip-fits, flip-is, flip-word-fits, word-fits-less, word-back}
 use borrow.Author.Needs.{needs}
-use Rattle.entry.proofs.to_signed.Statement.{statement}
-use Rattle.entry.proofs.to_signed.Tie as tie
-use Rattle.entry.proofs.to_signed.Reads as reads
-use Rattle.entry.proofs.to_signed.Lts as lts
+use Rattle.limits.proofs.to_signed.Statement.{statement}
+use Rattle.limits.proofs.to_signed.Tie as tie
+use Rattle.limits.proofs.to_signed.Reads as reads
+use Rattle.limits.proofs.to_signed.Lts as lts
 
 cast-result : tie.Need-cast-result
 cast-result c = search needs

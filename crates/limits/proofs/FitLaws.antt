@@ -8,8 +8,8 @@ use lib.IntN.{ℤ, pos, negsuc}
 use lib.Signed.{leZ}
 use borrow.Author.Tests.{le-leb, lt-leb, leb-true, leb-false}
 use Rattle.rows.proofs.BoolLaws.{and-left, and-right}
 use Rattle.entry.specs.declared.Entry.{Entry}
-use Rattle.entry.specs.Limits.{numberOf, atMost, fitsIn, isWithin, limitsOk}
+use Rattle.limits.specs.Limits.{numberOf, atMost, fitsIn, isWithin, limitsOk}
 
 -- the one comparison goes on from number to number
 le-on : (x y z : ℤ) → leZ x y ≡ true → leZ y z ≡ true → leZ x z ≡ true

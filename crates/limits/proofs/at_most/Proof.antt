@@ -1,12 +1,12 @@
--- `entry::at_most` meets its contract. Assumes nothing.
-use Rattle.entry.specs.Limits.{numberOf, atMost}
-use Rattle.entry.proofs.SignsLaws.{compared}
+-- `limits::at_most` meets its contract. Assumes nothing.
+use Rattle.limits.specs.Limits.{numberOf, atMost}
+use Rattle.limits.proofs.SignsLaws.{compared}
 use borrow.Author.Needs.{needs}
-use Rattle.entry.proofs.at_most.Statement.{statement}
-use Rattle.entry.proofs.at_most.Tie as tie
-use Rattle.entry.proofs.at_most.Reads as reads
-use Rattle.entry.proofs.at_most.Lts as lts
-use Rattle.entry.proofs.to_signed.Reads as to-signed-reads
+use Rattle.limits.proofs.at_most.Statement.{statement}
+use Rattle.limits.proofs.at_most.Tie as tie
+use Rattle.limits.proofs.at_most.Reads as reads
+use Rattle.limits.proofs.at_most.Lts as lts
+use Rattle.limits.proofs.to_signed.Reads as to-signed-reads
 
 to-signed-requires : tie.Need-to-signed-requires
 to-signed-requires c κs = search needs

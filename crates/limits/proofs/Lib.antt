@@ -1,0 +1,4 @@
+-- Laws of limits.
+pub mod SignsLaws
+pub mod LimitsLaws
+pub mod FitLaws
