@@ -3,8 +3,8 @@
 # The caller sets `root`, the repository's folder, and `me`, its own name as it is typed. What the prover itself said at the last
 # start that proved or refused something is kept in a log under target/first-run.
 
-# 45 crates take some three minutes on two cores (README.md)
-seconds_a_crate=4
+# the 35 crates of demo/run took 2 min 43 s on two cores, the 9 of telegram-list 39 s (README.md)
+seconds_a_crate=5
 
 # tell TEXT
 tell() {

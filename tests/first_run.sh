@@ -7,18 +7,7 @@ set -euo pipefail
 root="$(cd "$(dirname "$(readlink -f "${BASH_SOURCE[0]}")")/.." && pwd)"
 room="$(mktemp -d)"
 trap 'rm -rf "$room"' EXIT
-failed=0
-
-# say NAME EXPECTED FOUND: whether the two are the same
-say() {
-    if [ "$2" = "$3" ]; then
-        echo "same: $1"
-    else
-        echo "DIFFERENT: $1"
-        diff <(echo "$2") <(echo "$3") || true
-        failed=1
-    fi
-}
+. "$root/tests/saying.sh"
 
 # run COMMAND..: what it prints and tells, and its status
 run() {

@@ -7,6 +7,7 @@ set -euo pipefail
 cd "$(dirname "$(readlink -f "${BASH_SOURCE[0]}")")/.."
 root="$PWD"
 . tests/have.sh
+. tests/saying.sh
 have gcc gcc
 have make make
 have pkg-config pkg-config
@@ -18,19 +19,6 @@ trap 'rm -rf "$room"' EXIT
 prefix="$room/prefix"
 strict=(-std=c99 -Wall -Wextra -Werror -pedantic)
 hosts=(slave_host master_host)
-failed=0
-
-# try NAME COMMAND..: runs it and says how it went
-try() {
-    local name="$1"
-    shift
-    if "$@"; then
-        echo "passed: $name"
-    else
-        echo "FAILED: $name"
-        failed=1
-    fi
-}
 
 # rt_says STATUS: puts an `rt` that notes what it is asked and ends with that status before the one of the machine
 rt_says() {
@@ -78,6 +66,20 @@ refusals() {
         && status 2 / && status 2 "$room/file" && DESTDIR=none status 2 "$room/none" || return 1
     rt_says 1
     status 1 "$room/none"
+}
+
+# where there is no rt the archive is taken as it stands, and that is said; where there is no archive either it ends with 1
+without_rt() {
+    local tool archive=target/staticlib/libuss_c.a bare="$room/bare" got=0
+    mkdir "$bare"
+    for tool in bash basename dirname install mktemp readlink rm sed; do ln -s "$(type -P "$tool")" "$bare"; done
+    ln -s "$(python3 -c 'import sys; print(sys.executable)')" "$bare/python3"
+    PATH="$bare" ./install "$room/without" > "$room/named" 2> "$room/said" && cmp "$archive" "$room/without/lib/libuss_c.a" \
+        && grep -q '^install: rt is missing: the archive is taken as it stands' "$room/said" || return 1
+    mv "$archive" "$room/kept"
+    PATH="$bare" ./install "$room/none" > "$room/named" 2> "$room/said" || got=$?
+    mv "$room/kept" "$archive"
+    [ "$got" = 1 ] && [ ! -e "$room/none" ] && grep -q '^install: rt is missing, and there is no archive yet' "$room/said"
 }
 
 help() {
@@ -202,6 +204,7 @@ version="$(sed -nE 's/^#define USS_VERSION "(.*)"$/\1/p' include/uss.h)"
 try './install PREFIX' into_prefix
 try './install with DESTDIR' staged
 try './install refuses' refusals
+try './install without rt' without_rt
 try './install --help' help
 try 'examples by pkg-config' by_pkg_config
 try 'examples by CMake' by_cmake

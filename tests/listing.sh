@@ -10,22 +10,11 @@ trap 'rm -rf "$room"' EXIT
 list="$root/telegram-list"
 example='02 07 00 04 00 21 00 1C 3C'
 sound=('bytes 9 lge 7 node 0 normal' 'bcc 60')
-failed=0
+. "$root/tests/saying.sh"
 # seconds that a start may take
 patience=600
 # from any folder
 cd "$room"
-
-# say NAME EXPECTED FOUND: whether the two are the same
-say() {
-    if [ "$2" = "$3" ]; then
-        echo "same: $1"
-    else
-        echo "DIFFERENT: $1"
-        diff <(echo "$2") <(echo "$3") || true
-        failed=1
-    fi
-}
 
 # ends STATUS ARGUMENT..: what telegram-list prints for them, to the byte, where it ends with that status and in time
 ends() {

@@ -3,26 +3,14 @@
 # under C++, its macros for tables and the page about them, the texts for numbers, the examples and the demo against their stored output,
 # what is told at a first run, and the comparison with a second implementation on some millions of calls. Prints a line for each; exits 1
 # where one fails. Nothing is fetched.
-#     tests/run.sh [SEED [ROUNDS]]      of the comparison
+#     tests/run.sh [--archive-is-built] [SEED [ROUNDS]]      of the comparison; without the word the archive is built first
 set -euo pipefail
 cd "$(dirname "$(readlink -f "${BASH_SOURCE[0]}")")/.."
 archive=target/staticlib/libuss_c.a
 out=target/host
 mkdir -p "$out"
 strict=(-Wall -Wextra -Werror -pedantic -Iinclude)
-failed=0
-
-# try NAME COMMAND..: runs it and says how it went
-try() {
-    local name="$1" start="$SECONDS"
-    shift
-    if "$@"; then
-        echo "passed: $name ($((SECONDS - start)) s)"
-    else
-        echo "FAILED: $name"
-        failed=1
-    fi
-}
+. tests/saying.sh
 
 # same PROGRAM FILE: what the program prints is what the file has
 same() {
@@ -124,8 +112,12 @@ comparison() {
     rustc --edition 2021 -O -D warnings -L native=target/staticlib -o "$out/host" tests/host/main.rs && "$out/host" "$@"
 }
 
-rt staticlib uss_c > "$out/staticlib.txt" 2>&1 || { cat "$out/staticlib.txt"; echo "FAILED: rt staticlib uss_c"; exit 1; }
-echo "built: $archive"
+if [ "${1:-}" = --archive-is-built ]; then
+    shift
+else
+    rt staticlib uss_c > "$out/staticlib.txt" 2>&1 || { cat "$out/staticlib.txt"; echo "FAILED: rt staticlib uss_c"; exit 1; }
+    echo "built: $archive"
+fi
 try 'the archive offers what the header declares' symbols
 try 'the archive has no state and no system call, and needs nothing from outside' closed
 try 'C test' c_test

@@ -6,25 +6,13 @@
 set -euo pipefail
 cd "$(dirname "$(readlink -f "${BASH_SOURCE[0]}")")/.."
 . tests/have.sh
+. tests/saying.sh
 have cargo cargo rustc
 [ -f target/staticlib/libuss_c.a ] || rt staticlib uss_c > /dev/null
 export CARGO_TARGET_DIR="$PWD/target/rust" RUSTFLAGS='-D warnings' RUSTDOCFLAGS='-D warnings'
 unset USS_LIB_DIR
 room="$(mktemp -d)"
 trap 'rm -rf "$room"' EXIT
-failed=0
-
-# try NAME COMMAND..: runs it and says how it went
-try() {
-    local name="$1"
-    shift
-    if "$@"; then
-        echo "passed: $name"
-    else
-        echo "FAILED: $name"
-        failed=1
-    fi
-}
 
 # crate COMMAND..: cargo in the crate's folder, without the net
 crate() {
