@@ -1,7 +1,7 @@
 /* The bench's driver: the same rows for each implementation. The calls under test are chosen when it is compiled
  * (-DSLAVE=peer_slave and so on); without a choice they are the library's.
  *     bench rows             the names of the rows
- *     bench compare          each row, and a sweep of damaged calls, against the library: 1 at a difference
+ *     bench compare          each row, a sweep of damaged calls and lines of items, against the library: 1 at a difference
  *     bench one ROW          the row's call, once: to be counted by callgrind
  *     bench floor ROW        the floor of the row's call, once
  *     bench time [floor]     a line for each row: its name, median nanoseconds of a call (or of its floor)
@@ -23,6 +23,9 @@
 #define BUILD_TASK uss_build_task
 #define READ_REPLY uss_read_reply
 #define BCC uss_bcc
+#define RECEIVE uss_receive
+#define RECEIVE_BYTES uss_receive_bytes
+#define PAUSE uss_pause
 #endif
 
 #define MOST_RECORDS 512
@@ -31,7 +34,7 @@
 
 /* ---- a call with all it is lent and all it leaves */
 
-enum call { CALL_SLAVE, CALL_BUILD, CALL_READ, CALL_BCC };
+enum call { CALL_SLAVE, CALL_BUILD, CALL_READ, CALL_BCC, CALL_RECEIVE, CALL_RECEIVE_BYTES, CALL_PAUSE };
 
 struct input {
     enum call call;
@@ -41,10 +44,13 @@ struct input {
     uint32_t *values;
     size_t value_count;
     uss_words control, words; /* words: status of the slave, process words of the master */
-    const uint8_t *telegram;
+    const uint8_t *telegram; /* of the receiver the bytes */
     size_t telegram_len;
-    uint8_t *out;
+    uint8_t *out; /* of the receiver the page */
     size_t out_len;
+    uss_receiver receiver;
+    const uint16_t *items;
+    size_t item_count;
     uint8_t task, index;
     uint16_t parameter;
     uint32_t value;
@@ -55,6 +61,8 @@ union output {
     uss_built built;
     uss_reply reply;
     uint8_t bcc;
+    uss_received received;
+    uss_receiver receiver;
 };
 
 /* An implementation; `nothing` does not look at what it is given. Not const, so that no call of them is compiled away. */
@@ -64,11 +72,15 @@ struct calls {
     uss_built (*build_task)(uss_setup, uint8_t, uint16_t, uint8_t, uint32_t, uss_words, uint8_t *, size_t);
     uss_reply (*read_reply)(uss_setup, uint8_t, uint16_t, uint8_t, uint32_t, uss_words, const uint8_t *, size_t);
     uint8_t (*bcc)(const uint8_t *, size_t);
+    uss_received (*receive)(uss_receiver, const uint16_t *, size_t, uint8_t *, size_t);
+    uss_received (*receive_bytes)(uss_receiver, const uint8_t *, size_t, uint8_t *, size_t);
+    uss_receiver (*pause)(uss_receiver);
 };
 
-struct calls tested = {SLAVE, BUILD_TASK, READ_REPLY, BCC};
-struct calls library = {uss_slave, uss_build_task, uss_read_reply, uss_bcc};
-struct calls nothing = {nothing_slave, nothing_build_task, nothing_read_reply, nothing_bcc};
+struct calls tested = {SLAVE, BUILD_TASK, READ_REPLY, BCC, RECEIVE, RECEIVE_BYTES, PAUSE};
+struct calls library = {uss_slave, uss_build_task, uss_read_reply, uss_bcc, uss_receive, uss_receive_bytes, uss_pause};
+struct calls nothing = {nothing_slave, nothing_build_task, nothing_read_reply, nothing_bcc,
+                        nothing_receive, nothing_receive_bytes, nothing_pause};
 
 static union output call(const struct calls *c, const struct input *in)
 {
@@ -89,15 +101,26 @@ static union output call(const struct calls *c, const struct input *in)
     case CALL_BCC:
         o.bcc = c->bcc(in->telegram, in->telegram_len);
         break;
+    case CALL_RECEIVE:
+        o.received = c->receive(in->receiver, in->items, in->item_count, in->out, in->out_len);
+        break;
+    case CALL_RECEIVE_BYTES:
+        o.received = c->receive_bytes(in->receiver, in->telegram, in->telegram_len, in->out, in->out_len);
+        break;
+    case CALL_PAUSE:
+        o.receiver = c->pause(in->receiver);
+        break;
     }
     return o;
 }
 
-/* The slave reads table, values and telegram, the others a telegram alone. */
+/* The slave reads table, values and telegram, the receiver items or bytes, the others a telegram alone. */
 static uint32_t call_floor(const struct input *in)
 {
     if (in->call == CALL_SLAVE)
         return floor_slave(in->table, in->table_len, in->values, in->value_count, in->telegram, in->telegram_len);
+    if (in->call == CALL_RECEIVE)
+        return floor_items(in->items, in->item_count);
     return floor_bcc(in->telegram, in->telegram_len);
 }
 
@@ -139,7 +162,7 @@ static size_t make_table(uint8_t *table, uint32_t *values, uint32_t records, uin
 
 /* ---- rows */
 
-enum telegram { ASKED, BAD, MIRROR, BROADCAST };
+enum telegram { ASKED, BAD, MIRROR, BROADCAST, NOISE };
 
 struct row {
     const char *name;
@@ -149,28 +172,53 @@ struct row {
     uint8_t task;
     uint32_t beyond; /* added to the last record's number */
     size_t len;      /* telegram bytes */
+    uint32_t state;  /* of the receiver: 0 starts at the pause in front of the telegram, 1 + k at its byte k */
+    size_t fed;      /* items or bytes that the receiver is given */
 };
 
 static const struct row rows[] = {
-    {"read, 1 record", CALL_SLAVE, 1, 0, ASKED, USS_READ, 0, 16},
-    {"read, 16 records", CALL_SLAVE, 16, 0, ASKED, USS_READ, 0, 16},
-    {"read, 128 records", CALL_SLAVE, 128, 0, ASKED, USS_READ, 0, 16},
-    {"read, 512 records", CALL_SLAVE, 512, 0, ASKED, USS_READ, 0, 16},
-    {"read, 512 records, 4096 values", CALL_SLAVE, 512, 8, ASKED, USS_READ_ELEMENT, 0, 16},
-    {"word change", CALL_SLAVE, 1, 0, ASKED, USS_CHANGE_WORD, 0, 16},
-    {"bad BCC, 16 bytes", CALL_SLAVE, 1, 0, BAD, USS_READ, 0, 16},
-    {"bad BCC, 256 bytes", CALL_SLAVE, 1, 0, BAD, USS_READ, 0, 256},
-    {"mirror, 16 bytes", CALL_SLAVE, 1, 0, MIRROR, USS_READ, 0, 16},
-    {"mirror, 256 bytes", CALL_SLAVE, 1, 0, MIRROR, USS_READ, 0, 256},
-    {"broadcast", CALL_SLAVE, 1, 0, BROADCAST, 0, 0, 16},
-    {"unknown number", CALL_SLAVE, 1, 0, ASKED, USS_READ, 1, 16},
-    {"master build", CALL_BUILD, 0, 0, ASKED, USS_READ, 1082, 16},
-    {"reply read", CALL_READ, 0, 0, ASKED, USS_READ, 1082, 16},
-    {"BCC of 256 bytes", CALL_BCC, 0, 0, BAD, 0, 0, 256},
+    {"read, 1 record", CALL_SLAVE, 1, 0, ASKED, USS_READ, 0, 16, 0, 0},
+    {"read, 16 records", CALL_SLAVE, 16, 0, ASKED, USS_READ, 0, 16, 0, 0},
+    {"read, 128 records", CALL_SLAVE, 128, 0, ASKED, USS_READ, 0, 16, 0, 0},
+    {"read, 512 records", CALL_SLAVE, 512, 0, ASKED, USS_READ, 0, 16, 0, 0},
+    {"read, 512 records, 4096 values", CALL_SLAVE, 512, 8, ASKED, USS_READ_ELEMENT, 0, 16, 0, 0},
+    {"word change", CALL_SLAVE, 1, 0, ASKED, USS_CHANGE_WORD, 0, 16, 0, 0},
+    {"bad BCC, 16 bytes", CALL_SLAVE, 1, 0, BAD, USS_READ, 0, 16, 0, 0},
+    {"bad BCC, 256 bytes", CALL_SLAVE, 1, 0, BAD, USS_READ, 0, 256, 0, 0},
+    {"mirror, 16 bytes", CALL_SLAVE, 1, 0, MIRROR, USS_READ, 0, 16, 0, 0},
+    {"mirror, 256 bytes", CALL_SLAVE, 1, 0, MIRROR, USS_READ, 0, 256, 0, 0},
+    {"broadcast", CALL_SLAVE, 1, 0, BROADCAST, 0, 0, 16, 0, 0},
+    {"unknown number", CALL_SLAVE, 1, 0, ASKED, USS_READ, 1, 16, 0, 0},
+    {"master build", CALL_BUILD, 0, 0, ASKED, USS_READ, 1082, 16, 0, 0},
+    {"reply read", CALL_READ, 0, 0, ASKED, USS_READ, 1082, 16, 0, 0},
+    {"BCC of 256 bytes", CALL_BCC, 0, 0, BAD, 0, 0, 256, 0, 0},
+    {"receive, telegram of 16 bytes", CALL_RECEIVE, 0, 0, ASKED, USS_READ, 1082, 16, 0, 17},
+    {"receive, telegram of 128 bytes", CALL_RECEIVE, 0, 0, ASKED, USS_READ, 1082, 128, 0, 129},
+    {"receive, telegram of 256 bytes", CALL_RECEIVE, 0, 0, ASKED, USS_READ, 1082, 256, 0, 257},
+    {"receive, 100 ignored bytes", CALL_RECEIVE, 0, 0, NOISE, 0, 0, 100, 0, 100},
+    {"receive, 200 ignored bytes", CALL_RECEIVE, 0, 0, NOISE, 0, 0, 200, 0, 200},
+    {"receive, a pause", CALL_RECEIVE, 0, 0, ASKED, USS_READ, 1082, 16, 0, 1},
+    {"receive, the first 02", CALL_RECEIVE, 0, 0, ASKED, USS_READ, 1082, 16, 1, 1},
+    {"receive, LGE", CALL_RECEIVE, 0, 0, ASKED, USS_READ, 1082, 16, 2, 1},
+    {"receive, a byte inside", CALL_RECEIVE, 0, 0, ASKED, USS_READ, 1082, 16, 8, 1},
+    {"receive, the last byte", CALL_RECEIVE, 0, 0, ASKED, USS_READ, 1082, 16, 16, 1},
+    {"receive, an ignored byte", CALL_RECEIVE, 0, 0, NOISE, 0, 0, 16, 0, 1},
+    {"receive bytes, telegram of 16 bytes", CALL_RECEIVE_BYTES, 0, 0, ASKED, USS_READ, 1082, 16, 1, 16},
+    {"receive bytes, telegram of 128 bytes", CALL_RECEIVE_BYTES, 0, 0, ASKED, USS_READ, 1082, 128, 1, 128},
+    {"receive bytes, telegram of 256 bytes", CALL_RECEIVE_BYTES, 0, 0, ASKED, USS_READ, 1082, 256, 1, 256},
+    {"receive bytes, 100 ignored bytes", CALL_RECEIVE_BYTES, 0, 0, NOISE, 0, 0, 100, 0, 100},
+    {"receive bytes, 200 ignored bytes", CALL_RECEIVE_BYTES, 0, 0, NOISE, 0, 0, 200, 0, 200},
+    {"receive bytes, the first 02", CALL_RECEIVE_BYTES, 0, 0, ASKED, USS_READ, 1082, 16, 1, 1},
+    {"receive bytes, LGE", CALL_RECEIVE_BYTES, 0, 0, ASKED, USS_READ, 1082, 16, 2, 1},
+    {"receive bytes, a byte inside", CALL_RECEIVE_BYTES, 0, 0, ASKED, USS_READ, 1082, 16, 8, 1},
+    {"receive bytes, the last byte", CALL_RECEIVE_BYTES, 0, 0, ASKED, USS_READ, 1082, 16, 16, 1},
+    {"receive bytes, an ignored byte", CALL_RECEIVE_BYTES, 0, 0, NOISE, 0, 0, 16, 0, 1},
+    {"pause", CALL_PAUSE, 0, 0, ASKED, USS_READ, 1082, 16, 0, 0},
 };
 #define ROWS (sizeof rows / sizeof rows[0])
 
 static uint8_t table[12 * MOST_RECORDS], telegram[256], out[256];
+static uint16_t items[257];
 static uint32_t values[MOST_VALUES];
 static const uss_setup setup = {5, 4, 2};
 
@@ -190,6 +238,22 @@ static void seal(uint8_t *t, size_t len, uint8_t adr)
     t[len - 1] = 0;
     for (i = 0; i < len - 1; i++)
         t[len - 1] ^= t[i];
+}
+
+/* What the receiver is given: a part of the pause and the telegram behind it, with what comes before it on the page. */
+static void prepare_receiver(struct input *in, const struct row *r)
+{
+    size_t i, held = r->state == 0 ? 0 : r->state - 1;
+    items[0] = USS_PAUSE;
+    for (i = 0; i < r->len; i++)
+        items[1 + i] = telegram[i];
+    for (i = 0; i < held; i++)
+        out[i] = telegram[i];
+    in->receiver.state = r->state;
+    in->items = items + (r->telegram == NOISE ? 1 : r->state);
+    in->item_count = r->call == CALL_RECEIVE ? r->fed : 0;
+    in->telegram = telegram + held;
+    in->telegram_len = r->call == CALL_RECEIVE_BYTES ? r->fed : 0;
 }
 
 /* The row's call, on the buffers above. */
@@ -237,6 +301,8 @@ static struct input prepare(const struct row *r)
     in.out_len = sizeof out;
     in.task = r->task;
     in.parameter = (uint16_t)parameter;
+    if (r->call == CALL_RECEIVE || r->call == CALL_RECEIVE_BYTES || r->call == CALL_PAUSE)
+        prepare_receiver(&in, r);
     return in;
 }
 
@@ -253,7 +319,7 @@ static uint32_t draw(uint32_t below)
 /* A copy of `len` bytes that ends where memory ends, one for each `which`; NULL of none. */
 static void *lent(unsigned which, const void *bytes, size_t len)
 {
-    static uint8_t *blocks[4];
+    static uint8_t *blocks[5];
     size_t size = 32768;
     if (len == 0)
         return NULL;
@@ -287,6 +353,7 @@ static int differ(const struct input *given)
     in.values = lent(1, given->values, values_len);
     in.telegram = lent(2, given->telegram, in.telegram_len);
     in.out = lent(3, given->out, in.out_len);
+    in.items = lent(4, given->items, sizeof *in.items * in.item_count);
     got = call(&tested, &in);
     keep(after, in.values, values_len);
     keep(out_after, in.out, in.out_len);
@@ -452,6 +519,109 @@ static void draw_telegram(struct input *in, uint8_t *t, uint32_t asked, int repl
     in->telegram_len = draw(40) == 0 ? draw(262) : len;
 }
 
+/* ---- compare: the receiver */
+
+#define MOST_ITEMS 1200
+
+/* The bytes of a telegram or of its start, with chance damage; gives how many. */
+static uint32_t draw_run(uint8_t *run, uint32_t room)
+{
+    uint32_t i, len = draw(4) == 0 ? room - draw(3) : draw(8) == 0 ? 254 + draw(5) : draw(8) == 0 ? draw(258) : 4 + draw(24);
+    if (len > 257)
+        len = 5;
+    for (i = 0; i < 258; i++)
+        run[i] = (uint8_t)draw(256);
+    if (draw(12) == 0)
+        return draw(12);
+    run[0] = 0x02;
+    run[1] = (uint8_t)(len - 2);
+    if (draw(12) == 0)
+        run[draw(2)] ^= (uint8_t)(1u << draw(8));
+    if (draw(12) == 0)
+        run[1] = run[0];
+    return draw(6) == 0 ? draw(len + 1) : draw(12) == 0 ? 258 : len;
+}
+
+/* Runs of bytes, with a pause before most of them and inside few; gives how many items. */
+static size_t draw_line(uint16_t *line, uint32_t room)
+{
+    uint8_t run[258];
+    size_t count = 0;
+    uint32_t runs = draw(5), i, len, cut;
+    for (; runs > 0; runs--) {
+        if (draw(8) != 0)
+            line[count++] = (uint16_t)(draw(3) == 0 ? 256 + draw(65280) : USS_PAUSE);
+        len = draw_run(run, room);
+        cut = draw(10) == 0 ? draw(len + 1) : 999;
+        for (i = 0; i < len; i++) {
+            if (i == cut)
+                line[count++] = USS_PAUSE;
+            line[count++] = run[i];
+        }
+    }
+    return count;
+}
+
+/* A page of any length and a state that goes with it or does not. */
+static uint32_t draw_receiver(uint8_t *page, uss_receiver *receiver)
+{
+    static const uint16_t rooms[8] = {0, 1, 2, 4, 5, 255, 256, 300};
+    uint32_t room = draw(2) ? 256 : draw(4) == 0 ? draw(300) : rooms[draw(8)], i;
+    for (i = 0; i < 300; i++)
+        page[i] = (uint8_t)draw(256);
+    if (draw(2)) {
+        page[0] = 0x02;
+        page[1] = (uint8_t)(room - draw(4));
+    }
+    receiver->state = draw(4) == 0 ? draw(260) : draw(4) == 0 ? room + draw(3) : draw(8) == 0 ? draw(0x7FFFFFFF) * 2 + draw(2) : draw(2);
+    return room;
+}
+
+/* Lines of items, cut into calls in any way; what was not taken is fed again. */
+static int compare_receiver(void)
+{
+    static uint16_t line[MOST_ITEMS];
+    static uint8_t bytes[MOST_ITEMS], page[300];
+    uss_receiver receiver = {0};
+    size_t at = 0, end = 0, n, k, run;
+    uint32_t i, room = 256, taken = 0, telegrams = 0;
+    int bad = 0;
+    for (i = 0; i < 400000 && !bad; i++) {
+        struct input in;
+        union output o;
+        if (at == end) {
+            at = 0;
+            end = draw_line(line, room);
+            if (draw(3) == 0)
+                room = draw_receiver(page, &receiver);
+        }
+        n = draw(4) == 0 ? draw(300) : draw(2) ? draw(20) : draw(3);
+        if (n > end - at)
+            n = end - at;
+        for (run = 0; run < n && line[at + run] < USS_PAUSE; run++)
+            bytes[run] = (uint8_t)line[at + run];
+        memset(&in, 0, sizeof in);
+        in.call = n == 1 && run == 0 && draw(2) ? CALL_PAUSE : draw(2) ? CALL_RECEIVE_BYTES : CALL_RECEIVE;
+        in.receiver = receiver;
+        in.items = line + at;
+        in.item_count = in.call == CALL_RECEIVE ? n : 0;
+        in.telegram = bytes;
+        in.telegram_len = in.call == CALL_RECEIVE_BYTES ? run : 0;
+        in.out = page;
+        in.out_len = in.call == CALL_PAUSE ? 0 : room;
+        bad |= differ(&in);
+        o = call(&library, &in);
+        k = in.call == CALL_PAUSE ? 1 : (size_t)o.received.taken;
+        receiver = in.call == CALL_PAUSE ? o.receiver : o.received.receiver;
+        telegrams += in.call != CALL_PAUSE && o.received.length > 0;
+        at += k;
+        taken += (uint32_t)k;
+    }
+    printf("%s: %u calls of the receiver, %u items, %u telegrams\n", bad ? "DIFFERENT" : "the same", (unsigned)i, (unsigned)taken,
+           (unsigned)telegrams);
+    return bad;
+}
+
 static int compare(void)
 {
     static uint8_t t[12 * (MOST_RECORDS + 2)], page[300], room[300];
@@ -496,7 +666,7 @@ static int compare(void)
         if (given[i] > 0)
             printf(" %u:%u", (unsigned)i, (unsigned)given[i]);
     puts("");
-    return bad;
+    return bad | compare_receiver();
 }
 
 /* ---- time */

@@ -20,6 +20,15 @@ uint32_t floor_slave(const uint8_t *table, size_t table_len, const uint32_t *val
     return x ^ floor_bcc(table, table_len) ^ floor_bcc(telegram, telegram_len);
 }
 
+uint32_t floor_items(const uint16_t *items, size_t item_count)
+{
+    uint16_t x = 0;
+    size_t i;
+    for (i = 0; i < item_count; i++)
+        x ^= items[i];
+    return x;
+}
+
 uss_answer nothing_slave(uss_setup setup, const uint8_t *table, size_t table_len, uint32_t *values, size_t value_count,
                          uss_words control, uss_words status, const uint8_t *received, size_t received_len,
                          uint8_t *reply, size_t reply_len)
@@ -50,4 +59,23 @@ uint8_t nothing_bcc(const uint8_t *bytes, size_t len)
 {
     (void)bytes, (void)len;
     return 0;
+}
+
+uss_received nothing_receive(uss_receiver receiver, const uint16_t *items, size_t item_count, uint8_t *page, size_t page_len)
+{
+    uss_received none = {0, 0, {0}};
+    (void)receiver, (void)items, (void)item_count, (void)page, (void)page_len;
+    return none;
+}
+
+uss_received nothing_receive_bytes(uss_receiver receiver, const uint8_t *bytes, size_t byte_count, uint8_t *page, size_t page_len)
+{
+    uss_received none = {0, 0, {0}};
+    (void)receiver, (void)bytes, (void)byte_count, (void)page, (void)page_len;
+    return none;
+}
+
+uss_receiver nothing_pause(uss_receiver receiver)
+{
+    return receiver;
 }

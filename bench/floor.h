@@ -11,6 +11,9 @@ uint8_t floor_bcc(const uint8_t *bytes, size_t len);
 uint32_t floor_slave(const uint8_t *table, size_t table_len, const uint32_t *values, size_t value_count,
                      const uint8_t *telegram, size_t telegram_len);
 
+/* Reads every item once. */
+uint32_t floor_items(const uint16_t *items, size_t item_count);
+
 /* Calls that do nothing: what is left is the caller's. */
 uss_answer nothing_slave(uss_setup setup, const uint8_t *table, size_t table_len, uint32_t *values, size_t value_count,
                          uss_words control, uss_words status, const uint8_t *received, size_t received_len,
@@ -20,5 +23,8 @@ uss_built nothing_build_task(uss_setup setup, uint8_t task, uint16_t parameter, 
 uss_reply nothing_read_reply(uss_setup setup, uint8_t task, uint16_t parameter, uint8_t index, uint32_t value,
                              uss_words process, const uint8_t *received, size_t received_len);
 uint8_t nothing_bcc(const uint8_t *bytes, size_t len);
+uss_received nothing_receive(uss_receiver receiver, const uint16_t *items, size_t item_count, uint8_t *page, size_t page_len);
+uss_received nothing_receive_bytes(uss_receiver receiver, const uint8_t *bytes, size_t byte_count, uint8_t *page, size_t page_len);
+uss_receiver nothing_pause(uss_receiver receiver);
 
 #endif

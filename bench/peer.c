@@ -1,4 +1,4 @@
-/* A careful slave and master in C99 (document 01), with few instructions as its one aim beside being right.
+/* A careful slave, master and receiver in C99 (document 01, W-201), with few instructions as its one aim beside being right.
  *
  * What makes it short:
  *   - A record's head is one number. Numbers rise strictly just when each head is above the head before it with every bit
@@ -9,6 +9,8 @@
  *     no room.
  *   - The search goes by halves, since the numbers of a good table rise. Only a table with arrays needs a sum to find a
  *     record's first place.
+ *   - The receiver goes run by run. Disarmed it looks for a pause alone; inside a telegram it knows before the first byte where
+ *     the bytes end at the latest, and of a byte asks only whether it is a pause. Bytes without pauses it moves as they are.
  */
 #include "peer.h"
 
@@ -697,4 +699,153 @@ uss_reply peer_read_reply(uss_setup setup, uint8_t task, uint16_t parameter, uin
         p += 2u * setup.pkw;
     }
     return reading(USS_DONE, id, got, setup.pzd == 0 ? 0 : take_words(0, p, setup.pzd));
+}
+
+/* ---- the receiver */
+
+static inline uss_received received(size_t taken, uint32_t length, uint32_t state)
+{
+    uss_received r;
+    r.taken = taken;
+    r.length = length;
+    r.receiver.state = state;
+    return r;
+}
+
+/* The receiver's number, 0 where it says nothing on this page. */
+static inline uint32_t state_of(uss_receiver receiver, size_t page_len)
+{
+    size_t held = page_len < 255 ? page_len : 255;
+    return receiver.state <= held + 1 ? receiver.state : 0;
+}
+
+/* Whether an LGE names a telegram, and this fits. */
+static inline int lge_ok(uint32_t lge, size_t page_len)
+{
+    return lge >= 3 && lge <= 254 && lge + 2 <= page_len;
+}
+
+/* Whether a telegram of which k bytes are there ends on this page. Where it does not, somebody changed the page. */
+static inline int ends(uint32_t length, uint32_t k, size_t page_len)
+{
+    return length > k && length <= page_len && length <= USS_BUFFER;
+}
+
+uss_received peer_receive(uss_receiver receiver, const uint16_t *items, size_t item_count, uint8_t *page, size_t page_len)
+{
+    uint32_t state = state_of(receiver, page_len), k = state - 1, length, item;
+    size_t i = 0, j, most;
+
+    if (state > 2) {
+        length = page[1] + 2u;
+        if (ends(length, k, page_len))
+            goto inside;
+        goto changed;
+    }
+    if (state == 2)
+        goto opened;
+    if (state == 1)
+        goto armed;
+disarmed:
+    do {
+        if (i == item_count)
+            return received(item_count, 0, 0);
+    } while (items[i++] < USS_PAUSE);
+armed:
+    do {
+        if (i == item_count)
+            return received(item_count, 0, 1);
+        item = items[i++];
+    } while (item >= USS_PAUSE);
+    if (item != 0x02 || page_len == 0)
+        goto disarmed;
+    page[0] = 0x02;
+opened:
+    if (i == item_count)
+        return received(item_count, 0, 2);
+    item = items[i++];
+    if (item >= USS_PAUSE)
+        goto armed;
+    if (!lge_ok(item, page_len))
+        goto disarmed;
+    page[1] = (uint8_t)item;
+    length = item + 2;
+    k = 2;
+inside:
+    most = length - k;
+    if (most > item_count - i)
+        most = item_count - i;
+    for (j = 0; j != most; j++) {
+        if (items[i + j] >= USS_PAUSE) {
+            i += j + 1;
+            goto armed;
+        }
+        page[k + j] = (uint8_t)items[i + j];
+    }
+    k += (uint32_t)most;
+    return k == length ? received(i + most, length, 0) : received(item_count, 0, k + 1);
+changed:
+    while (i != item_count) {
+        item = items[i++];
+        if (item >= USS_PAUSE)
+            goto armed;
+        if (k == page_len)
+            goto disarmed;
+        page[k++] = (uint8_t)item;
+        if (k == USS_BUFFER)
+            goto disarmed;
+    }
+    return received(item_count, 0, k + 1);
+}
+
+uss_received peer_receive_bytes(uss_receiver receiver, const uint8_t *bytes, size_t byte_count, uint8_t *page, size_t page_len)
+{
+    uint32_t state = state_of(receiver, page_len), k = state - 1, length;
+    size_t i = 0, j, most;
+
+    if (state == 0 || byte_count == 0)
+        return received(byte_count, 0, state);
+    if (state > 2) {
+        length = page[1] + 2u;
+        if (!ends(length, k, page_len))
+            goto changed;
+    } else {
+        if (state == 1) {
+            if (bytes[0] != 0x02 || page_len == 0)
+                return received(byte_count, 0, 0);
+            page[0] = 0x02;
+            if (byte_count == 1)
+                return received(1, 0, 2);
+            i = 1;
+        }
+        if (!lge_ok(bytes[i], page_len))
+            return received(byte_count, 0, 0);
+        page[1] = bytes[i];
+        length = bytes[i++] + 2u;
+        k = 2;
+        if (i == byte_count)
+            return received(byte_count, 0, 3);
+    }
+    most = length - k;
+    if (most > byte_count - i)
+        most = byte_count - i;
+    for (j = 0; j != most; j++)
+        page[k + j] = bytes[i + j];
+    k += (uint32_t)most;
+    return k == length ? received(i + most, length, 0) : received(byte_count, 0, k + 1);
+changed:
+    while (i != byte_count) {
+        if (k == page_len)
+            return received(byte_count, 0, 0);
+        page[k++] = bytes[i++];
+        if (k == USS_BUFFER)
+            return received(byte_count, 0, 0);
+    }
+    return received(byte_count, 0, k + 1);
+}
+
+uss_receiver peer_pause(uss_receiver receiver)
+{
+    receiver.state = 1;
+    return receiver;
 }

@@ -1,9 +1,15 @@
-/* A careful slave and master in C99, written by hand from document 01: what the proved calls are measured against. Types,
- * numbers and what each call owes are those of uss.h. */
+/* A careful slave, master and receiver in C99, written by hand from document 01 and W-201: what the proved calls are measured
+ * against. Types, numbers and what each call owes are those of uss.h. */
 #ifndef PEER_H
 #define PEER_H
 
 #include "uss.h"
+
+uss_received peer_receive(uss_receiver receiver, const uint16_t *items, size_t item_count, uint8_t *page, size_t page_len);
+
+uss_received peer_receive_bytes(uss_receiver receiver, const uint8_t *bytes, size_t byte_count, uint8_t *page, size_t page_len);
+
+uss_receiver peer_pause(uss_receiver receiver);
 
 uss_answer peer_slave(uss_setup setup, const uint8_t *table, size_t table_len, uint32_t *values, size_t value_count,
                       uss_words control, uss_words status, const uint8_t *received, size_t received_len,

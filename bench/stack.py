@@ -79,7 +79,7 @@ def main():
     times = dict((a.split("=")[0], int(a.split("=")[1])) for a in sys.argv[2:])
     walked = {n: walk(n, c) for n, c in functions.items()}
     def total(n, path):
-        key = next((k for k in walked if k == n or k.startswith(n)), None)
+        key = n if n in walked else next((k for k in walked if k.startswith(n)), None)
         if key is None: sys.exit("no function " + n)
         own, calls = walked[key]
         if key in path: sys.exit("recursion: " + key)

@@ -19,6 +19,20 @@ pub struct Words {
     pub w4: u16,
 }
 
+/// What a receiver keeps from call to call; 0, disarmed, at the start.
+#[repr(C)]
+#[derive(Clone, Copy, Default)]
+pub struct Receiver {
+    pub state: u32,
+}
+
+#[repr(C)]
+pub struct Received {
+    pub taken: u64,
+    pub length: u32,
+    pub receiver: Receiver,
+}
+
 #[repr(C)]
 pub struct Answer {
     pub number: u32,
@@ -45,6 +59,10 @@ mod raw {
 
     #[link(name = "uss_c", kind = "static")]
     extern "C" {
+        pub fn uss_receive_bytes(
+            receiver: Receiver, bytes: *const u8, byte_count: usize, page: *mut u8, page_len: usize,
+        ) -> Received;
+        pub fn uss_pause(receiver: Receiver) -> Receiver;
         pub fn uss_slave(
             setup: Setup, table: *const u8, table_len: usize, values: *mut u32, value_count: usize, control: Words,
             status: Words, received: *const u8, received_len: usize, reply: *mut u8, reply_len: usize,
@@ -57,6 +75,14 @@ mod raw {
             received_len: usize,
         ) -> Reply;
     }
+}
+
+pub fn receive_bytes(receiver: Receiver, bytes: &[u8], page: &mut [u8]) -> Received {
+    unsafe { raw::uss_receive_bytes(receiver, bytes.as_ptr(), bytes.len(), page.as_mut_ptr(), page.len()) }
+}
+
+pub fn pause(receiver: Receiver) -> Receiver {
+    unsafe { raw::uss_pause(receiver) }
 }
 
 pub fn slave(
@@ -90,6 +116,22 @@ pub fn read_reply(setup: Setup, t: Task, received: &[u8]) -> Reply {
     }
 }
 
+/// The line: bytes in lots, a pause behind them. Returns the telegram that the pause follows; none where that is no telegram's end.
+fn carry<'a>(receiver: &mut Receiver, bytes: &[u8], page: &'a mut [u8]) -> &'a [u8] {
+    let mut length = 0;
+    for lot in bytes.chunks(5) {
+        let mut rest = lot;
+        while !rest.is_empty() {
+            let received = receive_bytes(*receiver, rest, page);
+            *receiver = received.receiver;
+            length = received.length as usize;
+            rest = &rest[received.taken as usize..];
+        }
+    }
+    *receiver = pause(*receiver);
+    &page[..length]
+}
+
 fn main() {
     let setup = Setup { node: 3, pkw: 4, pzd: 2 };
     // parameter 700: a signed word, writable, -100 to 100
@@ -98,16 +140,21 @@ fn main() {
     let mut control = Words::default();
     let status = Words { w1: 0x0331, w2: 0x2000, ..Words::default() };
     let process = Words { w1: 0x047F, w2: 0x2000, ..Words::default() };
+    // both have heard a pause
+    let (mut drive, mut master) = (pause(Receiver::default()), pause(Receiver::default()));
 
     for value in [0xFF9C, 0xFF9B] {
         let task = Task { task: 2, parameter: 700, index: 0, value, process };
         let mut telegram = [0u8; 256];
         let built = build_task(setup, task, &mut telegram);
+        let mut page = [0u8; 256];
+        let heard = carry(&mut drive, &telegram[..built.length as usize], &mut page);
         let mut reply = [0u8; 256];
-        let sent = &telegram[..built.length as usize];
-        let answer = slave(setup, &table, &mut values, control, status, sent, &mut reply);
+        let answer = slave(setup, &table, &mut values, control, status, heard, &mut reply);
         control = answer.control;
-        let read = read_reply(setup, task, &reply[..answer.length as usize]);
+        let mut page = [0u8; 256];
+        let heard = carry(&mut master, &reply[..answer.length as usize], &mut page);
+        let read = read_reply(setup, task, heard);
         println!(
             "change to {}: answer {}, reply {} with ID {} and {}; the drive holds {}",
             value as u16 as i16, answer.number, read.number, read.id, read.value, values[0] as u16 as i16

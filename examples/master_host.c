@@ -1,6 +1,7 @@
 /* The smallest master host: asks the drive at node 3 for parameter 1082 and reads what it answers.
  *
- * Replace `exchange` by your serial port: send the telegram, and take the bytes that come until the line is quiet.
+ * Replace `exchange` by your serial port: send the telegram, and note what comes, bytes and pauses, until the time for a reply is
+ * over.
  */
 #include "uss.h"
 #include "uss_text.h"
@@ -11,29 +12,33 @@
 /* As the drive is set up: node 3, four parameter words, two process words. */
 static const uss_setup setup = {3, 4, 2};
 
-/* ---- the line; here a drive that knows one telegram */
+/* ---- the line; here a drive that knows one telegram, and a byte of noise before it */
 
-static size_t exchange(const uint8_t *telegram, size_t n, uint8_t *reply, size_t room)
+static size_t exchange(const uint8_t *telegram, size_t n, uint16_t *items, size_t room)
 {
-    static const uint8_t known[16] = {0x02, 0x0E, 0x03, 0x14, 0x3A, 0, 0, 0, 0, 0x13, 0x88, 0x03, 0x31, 0x20, 0x00, 0xA8};
+    static const uint16_t known[] = {0xFF, USS_PAUSE,
+                                     0x02, 0x0E, 0x03, 0x14, 0x3A, 0, 0, 0, 0, 0x13, 0x88, 0x03, 0x31, 0x20, 0x00, 0xA8, USS_PAUSE};
     size_t i;
     printf("sent ");
     for (i = 0; i < n; i++)
         printf(" %02X", telegram[i]);
     printf("\n");
-    if (room < sizeof known)
+    if (room < sizeof known / sizeof known[0])
         return 0;
-    memcpy(reply, known, sizeof known);
-    return sizeof known;
+    memcpy(items, known, sizeof known);
+    return sizeof known / sizeof known[0];
 }
 
 /* Asks for a parameter's value. Returns 0 and the value, or says why there is none. */
 static int ask(uint16_t parameter, uint32_t *value)
 {
-    static uint8_t telegram[USS_BUFFER], reply[300];
+    static uint8_t telegram[USS_BUFFER], page[USS_BUFFER];
+    static uint16_t items[300];
     /* The control word with bit 10 set, so that the drive takes it, and the main set point. */
     uss_words process = {0x047F, 0x2000, 0, 0};
     uss_built b = uss_build_task(setup, USS_READ, parameter, 0, 0, process, telegram, sizeof telegram);
+    uss_receiver receiver = {0};
+    uss_received heard;
     uss_reply r;
     size_t n;
 
@@ -41,8 +46,14 @@ static int ask(uint16_t parameter, uint32_t *value)
         printf("not built: %u, %s\n", (unsigned)b.number, uss_number_text(b.number));
         return 1;
     }
-    n = exchange(telegram, b.length, reply, sizeof reply);
-    r = uss_read_reply(setup, USS_READ, parameter, 0, 0, process, reply, n);
+    n = exchange(telegram, b.length, items, sizeof items / sizeof items[0]);
+    /* The first telegram among the items; it stands in `page`, and the item behind it is to be a pause. */
+    heard = uss_receive(receiver, items, n, page, sizeof page);
+    if (heard.length == 0 || heard.taken == n || items[heard.taken] < USS_PAUSE) {
+        printf("no reply\n");
+        return 1;
+    }
+    r = uss_read_reply(setup, USS_READ, parameter, 0, 0, process, page, heard.length);
     if (r.number != USS_DONE) {
         printf("not read: %u, %s\n", (unsigned)r.number, uss_number_text(r.number));
         return 1;

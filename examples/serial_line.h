@@ -1,6 +1,6 @@
 /* A serial line under Linux, for serial_slave.c and serial_master.c: eight data bits, even parity, one stop bit, and pauses seen by
- * time. What is read goes to the library as it came: no byte is looked at here, and no length is believed. Times are in
- * milliseconds; docs/SERIAL.md has the figures. To be included before any other header.
+ * time. Bytes and pauses go to the library's receiver as they come: no byte is looked at here, and no length is believed. Times are
+ * in milliseconds; docs/SERIAL.md has the figures. To be included before any other header.
  */
 #ifndef SERIAL_LINE_H
 #define SERIAL_LINE_H
@@ -17,6 +17,8 @@
 #include <time.h>
 #include <unistd.h>
 
+#include "uss.h"
+
 #define LINE_CHARACTER 11L   /* bits of a character: start, eight data bits, parity, stop */
 #define LINE_TAKEN 2L        /* a receiver takes so many characters without a byte for a pause */
 #define LINE_KEPT 3L         /* a sender keeps so many before it starts */
@@ -29,6 +31,8 @@ typedef struct {
     long slack; /* how much later than on the line a byte may reach this program */
     int quiet;  /* line_quiet has seen a pause */
     int gone;   /* the line cannot be read or written any more */
+    uss_receiver receiver;    /* of all that comes */
+    uint8_t page[USS_BUFFER]; /* where it puts telegrams together */
 } serial_line;
 
 /* The time of so many characters on the line, rounded up. */
@@ -69,37 +73,60 @@ static inline size_t line_read(serial_line *l, uint8_t *bytes, size_t room)
     return n > 0 ? (size_t)n : 0;
 }
 
-/* The bytes up to the next pause. Waits `first` for the first of them and `longest` for the pause, both below 0 without end: on a line
- * that is never quiet no pause comes. Give room for 257 bytes or more: a telegram has at most 256, one more shows that it was longer,
- * and what does not fit is dropped. */
-static inline size_t line_receive(serial_line *l, uint8_t *page, size_t room, long first, long longest)
+/* Hands the bytes that are there to the receiver. Returns the length of the telegram that the last of them ends, 0 where it ends none,
+ * and `length` where no byte is there. */
+static inline size_t line_feed(serial_line *l, size_t length)
 {
-    uint8_t dropped[64];
-    size_t n = 0;
-    long end;
-    if (!line_wait(l, POLLIN, first))
-        return 0;
-    end = line_clock() + longest;
-    do {
-        if (n < room)
-            n += line_read(l, page + n, room - n);
-        else
-            line_read(l, dropped, sizeof dropped);
-    } while (!l->gone && (longest < 0 || line_clock() < end) && line_wait(l, POLLIN, line_time(l, LINE_TAKEN) + l->slack));
-    return n;
+    uint8_t bytes[64];
+    size_t n = line_read(l, bytes, sizeof bytes), i;
+    uss_received r;
+    for (i = 0; i < n; i += (size_t)r.taken) {
+        r = uss_receive_bytes(l->receiver, bytes + i, n - i, l->page, sizeof l->page);
+        l->receiver = r.receiver;
+        length = r.length;
+    }
+    return length;
 }
 
-/* Drops what comes until nothing has come for a sender's pause. Returns 0 where bytes come for longer than a telegram can take. */
+/* Hands on what comes, bytes and pauses, up to a pause that stands right behind a telegram; that is in `page` then, and its length is
+ * returned. Where `wait` is not below 0, a byte is to come within it, and it waits on only while bytes come, for no longer than a
+ * telegram takes: 0 where there is no telegram by then. */
+static inline size_t line_receive(serial_line *l, long wait)
+{
+    long end = line_clock() + wait, longest = line_time(l, LINE_LONGEST) + l->slack;
+    size_t length = 0;
+    int silent = 1; /* the last that was handed on is a pause */
+    while (!l->gone) {
+        long left = end - line_clock(), first = wait < 0 ? -1 : left > 0 ? left : 0;
+        if (line_wait(l, POLLIN, silent ? first : line_time(l, LINE_TAKEN) + l->slack)) {
+            length = line_feed(l, length);
+            silent = 0;
+            if (wait >= 0 && left < -longest)
+                return 0;
+        } else if (silent) {
+            return 0;
+        } else {
+            l->receiver = uss_pause(l->receiver);
+            silent = 1;
+            if (length > 0)
+                return length;
+        }
+    }
+    return 0;
+}
+
+/* Waits until nothing has come for a sender's pause; what comes until then is dropped. Returns 0 where bytes come for longer than a
+ * telegram can take. */
 static inline int line_quiet(serial_line *l)
 {
-    uint8_t dropped[64];
     long end = line_clock() + line_time(l, LINE_LONGEST) + l->slack;
     l->quiet = 0;
     while (line_wait(l, POLLIN, line_time(l, LINE_KEPT) + l->slack)) {
-        line_read(l, dropped, sizeof dropped);
+        line_feed(l, 0);
         if (l->gone || line_clock() >= end)
             return 0;
     }
+    l->receiver = uss_pause(l->receiver);
     l->quiet = !l->gone;
     return l->quiet;
 }
@@ -134,7 +161,7 @@ static inline speed_t line_speed(long baud)
     }
 }
 
-/* Opens the line, and waits for a pause so that what is read first does not start inside a telegram. Returns 0, or 1 with `errno`. */
+/* Opens the line, and waits for a pause: only behind one does a telegram start. Returns 0, or 1 with `errno`. */
 static inline int line_open(serial_line *l, const char *device, long baud, long slack)
 {
     speed_t speed = line_speed(baud);
@@ -142,13 +169,14 @@ static inline int line_open(serial_line *l, const char *device, long baud, long 
     l->baud = baud;
     l->slack = slack;
     l->gone = 0;
+    l->receiver.state = 0;
     l->fd = open(device, O_RDWR | O_NOCTTY | O_NONBLOCK);
     if (l->fd < 0 || tcgetattr(l->fd, &t) != 0)
         return 1;
     cfmakeraw(&t);
     t.c_cflag &= ~(tcflag_t)(PARODD | CSTOPB | CRTSCTS);
     t.c_cflag |= CS8 | PARENB | CREAD | CLOCAL;
-    /* a byte whose parity is wrong is left out, so that its telegram has another count (13) */
+    /* a byte whose parity is wrong is left out: too few come for a telegram then, and the pause behind them drops what was begun */
     t.c_iflag |= INPCK | IGNPAR | IGNBRK;
     /* EINVAL says that the line has no parity, as a pseudo terminal has none, and that nothing else was to be set */
     if (cfsetispeed(&t, speed) != 0 || cfsetospeed(&t, speed) != 0 || (tcsetattr(l->fd, TCSANOW, &t) != 0 && errno != EINVAL)

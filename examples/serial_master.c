@@ -18,16 +18,15 @@ static const uss_setup setup = {3, 4, 2};
 static const uss_words process = {0x047F, 0x2000, 0, 0};
 static int failed = 0;
 
-/* Sends the telegram after a pause, and takes what comes back until the next. What comes before it was sent, as a late reply to an
- * earlier task, is dropped. */
-static size_t exchange(serial_line *l, const uint8_t *telegram, size_t n, uint8_t *reply, size_t room)
+/* Sends the telegram after a pause, and waits for one that comes back, which then stands in the line's page; returns its length. What
+ * comes before it was sent, as a late reply to an earlier task, is dropped. */
+static size_t exchange(serial_line *l, const uint8_t *telegram, size_t n)
 {
     if (!line_quiet(l))
         return 0;
     line_send(l, telegram, n);
     /* the telegram itself, the drive's delay, and the first character of its reply */
-    return line_receive(l, reply, room, line_time(l, (long)n + 1) + LINE_REPLY_DELAY + l->slack,
-                        line_time(l, LINE_LONGEST) + l->slack);
+    return line_receive(l, line_time(l, (long)n + 1) + LINE_REPLY_DELAY + l->slack);
 }
 
 /* Why nothing came. */
@@ -39,14 +38,14 @@ static const char *nothing(const serial_line *l)
 /* A mirror telegram comes back byte for byte: the way there and back is sound. */
 static void mirror(serial_line *l, const uint8_t *net, size_t net_len)
 {
-    static uint8_t telegram[USS_BUFFER], reply[300];
+    static uint8_t telegram[USS_BUFFER];
     uss_built b = uss_build_mirror(setup, net, net_len, telegram, sizeof telegram);
     size_t n = 0;
     int i, same = 0;
 
     for (i = 0; i < TRIES && b.number == USS_DONE && !same; i++) {
-        n = exchange(l, telegram, b.length, reply, sizeof reply);
-        same = n == b.length && memcmp(telegram, reply, n) == 0;
+        n = exchange(l, telegram, b.length);
+        same = n == b.length && memcmp(telegram, l->page, n) == 0;
     }
     printf("mirror: %s\n", same ? "the same bytes" : n > 0 ? "not the same bytes" : nothing(l));
     failed |= !same;
@@ -55,15 +54,15 @@ static void mirror(serial_line *l, const uint8_t *net, size_t net_len)
 /* Asks until the drive's reply is read, and says what it is. */
 static void ask(serial_line *l, const char *what, uint8_t task, uint16_t parameter, uint8_t index, uint32_t value)
 {
-    static uint8_t telegram[USS_BUFFER], reply[300];
+    static uint8_t telegram[USS_BUFFER];
     uss_built b = uss_build_task(setup, task, parameter, index, value, process, telegram, sizeof telegram);
     uss_reply r = {USS_NOT_THE_REPLY, 0, 0, {0, 0, 0, 0}};
     size_t n = 0;
     int i;
 
     for (i = 0; i < TRIES && b.number == USS_DONE && r.number != USS_DONE; i++) {
-        n = exchange(l, telegram, b.length, reply, sizeof reply);
-        r = uss_read_reply(setup, task, parameter, index, value, process, reply, n);
+        n = exchange(l, telegram, b.length);
+        r = uss_read_reply(setup, task, parameter, index, value, process, l->page, n);
     }
     printf("%s: ", what);
     if (b.number != USS_DONE)
@@ -85,7 +84,7 @@ static void ask(serial_line *l, const char *what, uint8_t task, uint16_t paramet
  * twice, and twice leaves what once leaves. The time for a reply passes, so that the telegram has left before the next. */
 static void broadcast(serial_line *l, uint16_t word)
 {
-    static uint8_t telegram[USS_BUFFER], reply[300];
+    static uint8_t telegram[USS_BUFFER];
     uss_words words = {0, 0, 0, 0};
     uss_built b;
     int i;
@@ -93,7 +92,7 @@ static void broadcast(serial_line *l, uint16_t word)
     words.w1 = word;
     b = uss_build_broadcast(setup, 0x0002, 0x0401, 0, words, telegram, sizeof telegram);
     for (i = 0; i < 2 && b.number == USS_DONE; i++)
-        exchange(l, telegram, b.length, reply, sizeof reply);
+        exchange(l, telegram, b.length);
     printf("broadcast: %s\n", b.number != USS_DONE ? uss_number_text(b.number) : l->quiet && !l->gone ? "sent" : nothing(l));
     failed |= b.number != USS_DONE || !l->quiet || l->gone;
 }

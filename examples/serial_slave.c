@@ -2,7 +2,7 @@
  *
  *     serial_slave DEVICE [BAUD [SLACK]]
  *
- * Prints a line for each page that came, and ends when the line is gone. docs/SERIAL.md explains the times.
+ * Prints a line for each telegram that came, and ends when the line is gone. docs/SERIAL.md explains the times.
  */
 #include "serial_line.h"
 
@@ -22,7 +22,7 @@ static const uss_setup setup = {3, 4, 2};
 
 int main(int count, char **arguments)
 {
-    static uint8_t received[300], reply[USS_BUFFER];
+    static uint8_t reply[USS_BUFFER];
     serial_line line = line_of(count, arguments, 3);
     uss_words control = {0, 0, 0, 0};
 
@@ -32,11 +32,11 @@ int main(int count, char **arguments)
         /* What the drive says of itself: status word and actual value. */
         uss_words status = {0x0331, 0x2000, 0, 0};
         uss_answer a;
-        /* A page ends where a pause was seen, so the reply starts no earlier than a pause after its task. */
-        size_t n = line_receive(&line, received, sizeof received, -1, -1);
+        /* A pause was seen behind the telegram, so the reply starts no earlier than a pause after its task. */
+        size_t n = line_receive(&line, -1);
         if (line.gone)
             return 0;
-        a = uss_slave(setup, table, sizeof table, values, sizeof values / sizeof values[0], control, status, received, n,
+        a = uss_slave(setup, table, sizeof table, values, sizeof values / sizeof values[0], control, status, line.page, n,
                       reply, sizeof reply);
         control = a.control;
         /* Refusals and broadcasts have length 0: nothing is sent. */

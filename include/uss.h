@@ -9,12 +9,12 @@
  *   - a refusal (a number of 10 and more) writes nothing, reports length 0, and gives back the control words it was given.
  *
  * What the caller owes: each pointer is valid for its count of elements for the time of the call, and properly aligned;
- * what is written (values, reply, out) does not overlap anything else that is lent to the same call. A count of 0 may come
- * with any pointer, NULL too.
+ * what is written (page, values, reply, out) does not overlap anything else that is lent to the same call. A count of 0 may
+ * come with any pointer, NULL too.
  *
  * Structs go by value. Their layout is that of the chip's own C compiler (docs/CHIPS.md has the chips): no field is packed,
- * and sizes are 3, 8, 16, 8, 20 and 16 bytes in the order below on each of them. On a 32-bit chip size_t has 32 bits, and a count
- * no more. Static asserts of each size and offset are compiled for each target.
+ * and sizes are 3, 8, 4, 16, 16, 8, 20 and 16 bytes in the order below on each of them. On a 32-bit chip size_t has 32 bits, and a
+ * count no more. Static asserts of each size and offset are compiled for each target.
  */
 #ifndef USS_H
 #define USS_H
@@ -29,12 +29,15 @@ extern "C" {
 /* The version of this header and of the archive that comes with it; the text says the three numbers. CHANGELOG.md says what a
  * step of each number means. */
 #define USS_VERSION_MAJOR 0
-#define USS_VERSION_MINOR 1
+#define USS_VERSION_MINOR 2
 #define USS_VERSION_PATCH 0
-#define USS_VERSION "0.1.0"
+#define USS_VERSION "0.2.0"
 
-/* A buffer for a reply or a built telegram has at least this many bytes, however short the telegram is. */
+/* A buffer for a reply or a built telegram has at least this many bytes, however short the telegram is. A receiver's page of so many
+ * takes every telegram. */
 #define USS_BUFFER 256
+/* An item of uss_receive: a number under this is a byte, this and any above it a pause. */
+#define USS_PAUSE 256
 /* A buffer of this many bytes takes every listing. */
 #define USS_LISTING 64
 /* A record of the parameter table has this many bytes; a table has at most 512 records and 4096 values. */
@@ -137,6 +140,20 @@ typedef struct {
     uint16_t w1, w2, w3, w4;
 } uss_words;
 
+/* What a receiver keeps from call to call; 0 at the start. 0 is disarmed, 1 armed, 1 + k inside a telegram of which k bytes (1 to
+ * 255) stand at the start of the page; any other number is disarmed, and given back as 0. */
+typedef struct {
+    uint32_t state;
+} uss_receiver;
+
+/* A receiver's answer: how many items it took, the length of the telegram that it hands out, 0 where there is none, and what it
+ * keeps for the next call. */
+typedef struct {
+    uint64_t taken;
+    uint32_t length;
+    uss_receiver receiver;
+} uss_received;
+
 /* A slave call's answer: length is that of the reply, 0 where there is none; control is the control state from now on. */
 typedef struct {
     uint32_t number, length;
@@ -214,6 +231,41 @@ typedef struct {
 #define USS_LIMIT_FITS_ITS_KIND(limit, least, most) USS_HOLDS((limit) + 0LL >= (least) && (limit) + 0LL <= (most))
 #define USS_MINIMUM_AT_MOST_MAXIMUM(minimum, maximum) USS_HOLDS((minimum) + 0LL <= (maximum) + 0LL)
 
+/* ---- the receiver
+ *
+ * A receiver is fed as the UART delivers, bytes and pauses, and hands out telegrams. A pause arms it, from any state. Only 02
+ * directly after a pause opens a telegram; any other first byte, or an LGE outside 3 to 254, disarms it. At LGE + 2 bytes the
+ * telegram is handed out, once, and the receiver is disarmed. A pause inside a telegram drops it and arms again. Disarmed, bytes
+ * are taken and ignored. How the items are cut into calls does not show. As long as receiver and page are as the last call left
+ * them, what is handed out is never refused with 10 to 13; its BCC, its address and the rest are for uss_slave or uss_read_reply to
+ * test. A receiver has no numbers and refuses nothing.
+ *
+ * A byte between a telegram and the next pause says that what was handed out may not be what was sent; docs/SERIAL.md, Pauses, has
+ * why a host waits for that pause before it acts.
+ *
+ * receiver  what the last call gave back; {0} at the start.
+ * page      where the telegram is put together: while one is begun (state over 1) the same bytes at each call, which nobody else
+ *           writes; else any page will do. USS_BUFFER bytes take every telegram; a shorter page those that fit, and an LGE whose
+ *           telegram does not fit disarms. A state that says more bytes than the page has is disarmed.
+ */
+
+/* Takes items until a telegram is whole or none is left; then feed it the items that it did not take. With a telegram `length` is its
+ * byte count, and it stands at the start of `page`. Writes each byte that opens a telegram or goes on with it to its place in
+ * `page` when it is taken, and nothing else.
+ *
+ * items     bytes and pauses as they came: under USS_PAUSE a byte, else a pause.
+ */
+uss_received uss_receive(uss_receiver receiver, const uint16_t *items, size_t item_count, uint8_t *page, size_t page_len);
+
+/* Takes bytes: uss_receive of the same bytes as items, for an interrupt, or a driver that hands over bytes alone.
+ *
+ * bytes     bytes as they came, with no pause between them.
+ */
+uss_received uss_receive_bytes(uss_receiver receiver, const uint8_t *bytes, size_t byte_count, uint8_t *page, size_t page_len);
+
+/* Takes one pause: uss_receive of one pause, for a timer. It arms, whatever `receiver` is; no page is needed. */
+uss_receiver uss_pause(uss_receiver receiver);
+
 /* ---- the slave
  *
  * table     records of 12 bytes, numbers rising. Bytes 0 to 3, most significant bit first: number 15 bits, double 1, signed 1,
@@ -228,7 +280,7 @@ typedef struct {
  * setup     this drive's node, and the words of its two areas.
  * control   the control words as they stand; keep what the answer gives back, whatever its number is.
  * status    what the reply carries as process words.
- * received  the bytes between two pauses on the line, as they came.
+ * received  the telegram that a receiver handed out; or any bytes, as they came.
  * reply     the buffer for the reply, USS_BUFFER bytes or more.
  *
  * Numbers in test order: 20 21 22 23, 10 11 12 13 14 15, 16 17 18, then 0, 1 or 2. All of 20 to 23 are tested at each call.
@@ -287,7 +339,7 @@ uss_built uss_build_broadcast(uss_setup setup, uint16_t selector, uint16_t mask1
 
 /* Reads the reply to a task. Give set-up, task, parameter, index, value and process words as the task was built. Writes nothing.
  *
- * received   the bytes that came from the line.
+ * received   the telegram that a receiver handed out; or any bytes that came from the line.
  *
  * Numbers in test order: 30 31, 10 11 12 13 14 15, 16 17, 33, then 0. A value is returned without its sign.
  */

@@ -58,7 +58,7 @@ xor_before() {
 look_at() {
     local n="${#bytes[@]}" i sum
     case "$1" in
-    10) echo "$n came. Noise, or the bytes were cut off too early: the pause by which the receiver ends a telegram." ;;
+    10) echo "$n came. Noise, or the bytes were cut off too early, at a pause inside the telegram." ;;
     11)
         for ((i = 1; i < n; i++)); do [ "${bytes[i]}" != 02 ] || break; done
         echo "it is ${bytes[0]^^}, $([ "$i" = "$n" ] && echo 'and no 02 follows' || echo "and the first 02 is byte $((i + 1))")." \

@@ -83,7 +83,7 @@ without_rt() {
 }
 
 help() {
-    installed --help | grep -q '^usage: ./install PREFIX'
+    installed --help > "$room/said" && grep -q '^usage: ./install PREFIX' "$room/said"
 }
 
 # same PROGRAM NAME: what the program prints is what is stored of that example

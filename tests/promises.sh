@@ -125,7 +125,7 @@ stands() {
     local part
     for part in specs proofs; do
         if [ -f "crates/$1/$part/$2.antt" ] \
-            && grep -qE "^ *(abbrev |unfoldable )?pub (record )?$3( |\$)" "crates/$1/$part/$2.antt"; then
+            && grep -qE "^ *(abbrev |unfoldable )?pub ((record|data) )?$3( |\$)" "crates/$1/$part/$2.antt"; then
             return 0
         fi
     done

@@ -93,7 +93,8 @@ own_folder() {
     ! USS_LIB_DIR="$room/own" place thumbv7m-none-eabi > "$room/said" && grep -q "^uss: $room/own/libuss_c.a is missing" "$room/said" || return 1
     mkdir "$room/own"
     touch "$room/own/libuss_c.a"
-    USS_LIB_DIR="$room/own" place x86_64-unknown-linux-gnux32 | grep -qx "cargo:rustc-link-search=native=$room/own" \
+    USS_LIB_DIR="$room/own" place x86_64-unknown-linux-gnux32 > "$room/said" || return 1
+    grep -qx "cargo:rustc-link-search=native=$room/own" "$room/said" \
         && ! (cd "$room" && USS_LIB_DIR=own place thumbv7m-none-eabi > "$room/said")
 }
 

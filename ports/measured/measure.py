@@ -34,7 +34,8 @@ GCC = {
     "cortex-m4f": ["arm-none-eabi-gcc", "-mcpu=cortex-m4", "-mthumb", "-mfloat-abi=hard", "-mfpu=fpv4-sp-d16"],
     "riscv32": ["riscv64-unknown-elf-gcc", "-march=rv32imac", "-mabi=ilp32"],
 }
-PEERS = {"uss_slave": "peer_slave", "uss_build_task": "peer_build_task", "uss_read_reply": "peer_read_reply", "uss_bcc": "peer_bcc"}
+PEERS = {"uss_slave": "peer_slave", "uss_build_task": "peer_build_task", "uss_read_reply": "peer_read_reply", "uss_bcc": "peer_bcc",
+         "uss_receive": "peer_receive", "uss_receive_bytes": "peer_receive_bytes", "uss_pause": "peer_pause"}
 MASTER = ["uss_build_task", "uss_read_reply"]
 
 

@@ -38,6 +38,30 @@
 //! assert_eq!(read.content, Content::Word(5000));
 //! assert_eq!(read.process, status);
 //! ```
+//!
+//! # From the line to the drive
+//!
+//! ```
+//! use uss::{Answer, Receiver, Setup, Words};
+//!
+//! // what came: a pause, noise, a pause, a mirror telegram to node 3, a pause
+//! let line = [256, 0x17, 0x02, 256, 0x02, 0x03, 0x43, 0x55, 0x17, 256];
+//! let (mut receiver, mut page) = (Receiver::default(), [0; uss::BUFFER]);
+//! let (setup, mut control, mut buffer) = (Setup { node: 3, pkw: 4, pzd: 2 }, Words::default(), [0; uss::BUFFER]);
+//! let (mut rest, mut answered) = (&line[..], 0);
+//! while !rest.is_empty() {
+//!     let received = uss::receive(receiver, rest, &mut page);
+//!     receiver = received.receiver;
+//!     rest = &rest[received.taken..];
+//!     if let Some(telegram) = received.telegram {
+//!         let served = uss::serve(setup, &[], &mut [], control, Words::default(), telegram, &mut buffer);
+//!         control = served.control;
+//!         assert_eq!(served.answer, Answer::Mirrored(&[0x02, 0x03, 0x43, 0x55, 0x17]));
+//!         answered += 1;
+//!     }
+//! }
+//! assert_eq!(answered, 1);
+//! ```
 #![no_std]
 #![deny(missing_docs)]
 
@@ -46,8 +70,11 @@ mod raw;
 
 pub use numbers::{Content, ParameterError, Refusal, Rule, Task};
 
-/// A buffer for a reply or a built telegram has at least this many bytes, however short the telegram is.
+/// A buffer for a reply or a built telegram has at least this many bytes, however short the telegram is. A receiver's page of so many
+/// takes every telegram.
 pub const BUFFER: usize = 256;
+/// An item of [`receive`]: a number under this is a byte, this and any above it a pause.
+pub const PAUSE: u16 = 256;
 /// A buffer of this many bytes takes every listing.
 pub const LISTING: usize = 64;
 /// A record of the parameter table has this many bytes.
@@ -77,6 +104,27 @@ pub struct Words {
     pub w3: u16,
     /// The fourth word.
     pub w4: u16,
+}
+
+/// What a receiver keeps from call to call. The default is its start, disarmed.
+#[repr(C)]
+#[derive(Clone, Copy, Debug, Default, PartialEq, Eq, Hash)]
+pub struct Receiver {
+    /// 0 is disarmed, 1 armed, 1 + k inside a telegram of which k bytes (1 to 255) stand at the start of the page; any other number is
+    /// disarmed.
+    pub state: u32,
+}
+
+/// A receiver's answer.
+#[derive(Clone, Copy, Debug, PartialEq, Eq)]
+#[must_use]
+pub struct Received<'a> {
+    /// How many items or bytes were taken: all, where no telegram is handed out. Feed it the others next.
+    pub taken: usize,
+    /// The telegram that is handed out, at the start of the page.
+    pub telegram: Option<&'a [u8]>,
+    /// What to keep for the next call.
+    pub receiver: Receiver,
 }
 
 /// A slave call's answer.
@@ -157,12 +205,98 @@ fn written(buffer: &[u8], length: u32) -> &[u8] {
     buffer.get(..length as usize).unwrap_or(&[])
 }
 
+/// What a receiver's call gives back of `count` items and a page. No call says that it took more items than there are; of an archive
+/// that did, all would be taken.
+fn received(r: raw::Received, count: usize, page: &[u8]) -> Received<'_> {
+    let taken = usize::try_from(r.taken).map_or(count, |taken| taken.min(count));
+    let telegram = match r.length {
+        0 => None,
+        length => Some(written(page, length)),
+    };
+    Received { taken, telegram, receiver: r.receiver }
+}
+
 /// The telegram that a build has written, or why there is none.
 fn telegram(built: raw::Built, out: &[u8]) -> Result<&[u8], Refusal> {
     match built.number {
         0 => Ok(written(out, built.length)),
         number => Err(Refusal::from(number)),
     }
+}
+
+/// Takes bytes and pauses as the UART delivers them, until a telegram is whole or none is left: under [`PAUSE`] an item is a byte, else a
+/// pause.
+///
+/// A pause arms the receiver, from any state. Only 02 directly after a pause opens a telegram; any other first byte, or an LGE outside 3
+/// to 254, disarms it. At LGE + 2 bytes the telegram is handed out, once, and the receiver is disarmed. A pause inside a telegram drops
+/// it and arms again. Disarmed, bytes are taken and ignored. How the items are cut into calls does not show. BCC and address of what is
+/// handed out are for [`serve`] or [`read_reply`] to test.
+///
+/// `receiver` is what the last call gave back. While a telegram is begun (a state over 1) `page` has the same bytes at each call, which
+/// nobody else writes; else any page will do. [`BUFFER`] bytes take every telegram, a shorter page those that fit. Only the bytes of a
+/// telegram are written, each to its place.
+///
+/// A byte between a telegram and the next pause says that what was handed out may not be what was sent; docs/SERIAL.md, Pauses, has why a
+/// host waits for that pause before it acts.
+///
+/// ```
+/// use uss::{Receiver, PAUSE};
+///
+/// let mut page = [0; uss::BUFFER];
+/// // a telegram of 5 bytes behind noise, in one call: the next byte is not taken
+/// let line = [0x17, PAUSE, 0x02, 0x03, 0x43, 0x55, 0x17, 0x99];
+/// let received = uss::receive(Receiver::default(), &line, &mut page);
+/// assert_eq!(received.telegram, Some(&[0x02, 0x03, 0x43, 0x55, 0x17][..]));
+/// assert_eq!(received.taken, 7);
+/// // cut anywhere, it is the same
+/// let first = uss::receive(Receiver::default(), &line[..4], &mut page);
+/// assert_eq!((first.taken, first.telegram, first.receiver.state), (4, None, 3));
+/// let second = uss::receive(first.receiver, &line[4..], &mut page);
+/// assert_eq!((second.taken, second.telegram.unwrap().len(), second.receiver), (3, 5, Receiver::default()));
+/// ```
+pub fn receive<'a>(receiver: Receiver, items: &[u16], page: &'a mut [u8]) -> Received<'a> {
+    // SAFETY: pointers and counts are those of two slices, and the one lent for writing does not overlap the other; the call takes any
+    // state, items, bytes and counts, and reads and writes only inside what is lent (docs/PROMISES.md, demand 1).
+    let r = unsafe { raw::uss_receive(receiver, items.as_ptr(), items.len(), page.as_mut_ptr(), page.len()) };
+    received(r, items.len(), page)
+}
+
+/// Takes bytes that came with no pause between them: [`receive`] of the same bytes as items, for an interrupt, or a driver that hands
+/// over bytes alone.
+///
+/// ```
+/// use uss::Receiver;
+///
+/// let (mut receiver, mut page) = (uss::pause(Receiver::default()), [0; uss::BUFFER]);
+/// for byte in [0x02, 0x03, 0x43, 0x55] {
+///     let received = uss::receive_bytes(receiver, &[byte], &mut page);
+///     assert_eq!(received.telegram, None);
+///     receiver = received.receiver;
+/// }
+/// let received = uss::receive_bytes(receiver, &[0x17], &mut page);
+/// assert_eq!(received.telegram, Some(&[0x02, 0x03, 0x43, 0x55, 0x17][..]));
+/// // without a pause the next one is not heard
+/// let received = uss::receive_bytes(received.receiver, &[0x02, 0x03, 0x43, 0x55, 0x17], &mut page);
+/// assert_eq!((received.taken, received.telegram), (5, None));
+/// ```
+pub fn receive_bytes<'a>(receiver: Receiver, bytes: &[u8], page: &'a mut [u8]) -> Received<'a> {
+    // SAFETY: pointers and counts are those of two slices, and the one lent for writing does not overlap the other; the call takes any
+    // state, bytes and counts, and reads and writes only inside what is lent (docs/PROMISES.md, demand 1).
+    let r = unsafe { raw::uss_receive_bytes(receiver, bytes.as_ptr(), bytes.len(), page.as_mut_ptr(), page.len()) };
+    received(r, bytes.len(), page)
+}
+
+/// Takes one pause: [`receive`] of one pause, for a timer. It arms, whatever `receiver` is.
+///
+/// ```
+/// use uss::Receiver;
+///
+/// assert_eq!(uss::pause(Receiver::default()), Receiver { state: 1 });
+/// assert_eq!(uss::pause(Receiver { state: 17 }), Receiver { state: 1 });
+/// ```
+pub fn pause(receiver: Receiver) -> Receiver {
+    // SAFETY: the call takes any number, and neither reads nor writes memory (docs/PROMISES.md, demand 1).
+    unsafe { raw::uss_pause(receiver) }
 }
 
 /// Serves one received page: checks it, runs its task on the values, takes its process words and writes the reply.
@@ -366,5 +500,14 @@ mod tests {
         assert_eq!(written(&[1, 2, 3], 3), [1, 2, 3]);
         assert_eq!(written(&[1, 2, 3], 4), []);
         assert_eq!(written(&[], u32::MAX), []);
+    }
+
+    #[test]
+    fn no_more_is_taken_than_there_is() {
+        let of = |taken, length| received(raw::Received { taken, length, receiver: Receiver { state: 7 } }, 2, &[1, 2, 3]);
+        assert_eq!(of(1, 0), Received { taken: 1, telegram: None, receiver: Receiver { state: 7 } });
+        assert_eq!(of(2, 3), Received { taken: 2, telegram: Some(&[1, 2, 3]), receiver: Receiver { state: 7 } });
+        assert_eq!(of(3, 4), Received { taken: 2, telegram: Some(&[]), receiver: Receiver { state: 7 } });
+        assert_eq!(of(u64::MAX, 0).taken, 2);
     }
 }

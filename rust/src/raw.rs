@@ -1,6 +1,13 @@
 //! The calls of `include/uss.h`, and the structs that they return, as C has them.
 
-use crate::{Setup, Words};
+use crate::{Receiver, Setup, Words};
+
+#[repr(C)]
+pub struct Received {
+    pub taken: u64,
+    pub length: u32,
+    pub receiver: Receiver,
+}
 
 #[repr(C)]
 pub struct Answer {
@@ -32,6 +39,9 @@ pub struct TableCheck {
 }
 
 extern "C" {
+    pub fn uss_receive(receiver: Receiver, items: *const u16, item_count: usize, page: *mut u8, page_len: usize) -> Received;
+    pub fn uss_receive_bytes(receiver: Receiver, bytes: *const u8, byte_count: usize, page: *mut u8, page_len: usize) -> Received;
+    pub fn uss_pause(receiver: Receiver) -> Receiver;
     pub fn uss_slave(
         setup: Setup, table: *const u8, table_len: usize, values: *mut u32, value_count: usize, control: Words, status: Words,
         received: *const u8, received_len: usize, reply: *mut u8, reply_len: usize,
@@ -54,6 +64,8 @@ extern "C" {
 // The sizes that uss.h names; tests/header.rs compares calls and fields with it.
 const _: () = assert!(core::mem::size_of::<Setup>() == 3);
 const _: () = assert!(core::mem::size_of::<Words>() == 8);
+const _: () = assert!(core::mem::size_of::<Receiver>() == 4);
+const _: () = assert!(core::mem::size_of::<Received>() == 16);
 const _: () = assert!(core::mem::size_of::<Answer>() == 16);
 const _: () = assert!(core::mem::size_of::<Built>() == 8);
 const _: () = assert!(core::mem::size_of::<Reply>() == 20);

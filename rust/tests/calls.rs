@@ -1,6 +1,6 @@
 //! Every call through the archive: what goes in comes out where it belongs, and a refusal leaves everything as it was.
 
-use uss::{Answer, Content, ParameterError, Refusal, Request, Setup, Task, Words};
+use uss::{Answer, Content, ParameterError, Receiver, Refusal, Request, Setup, Task, Words};
 
 const SETUP: Setup = Setup { node: 3, pkw: 4, pzd: 4 };
 /// 700: a signed word, writable, -100 to 100. 701: a double, writable, two elements, any value.
@@ -142,5 +142,69 @@ fn no_listing_is_longer_than_its_buffer() {
         assert!(text.starts_with(&format!("telegram listing 1\nbytes {} ", bytes.len().min(300))));
         assert_eq!(uss::list(bytes, &mut short[..text.len() - 1]), None);
         assert_eq!(short, [0xAA; uss::LISTING]);
+    }
+}
+
+/// A pause and the telegram of a read of 700.
+fn line() -> Vec<u16> {
+    let (mut out, request) = ([0; uss::BUFFER], Request { task: Task::Read, parameter: 700, process: PROCESS, ..Request::default() });
+    let telegram = uss::build_task(SETUP, request, &mut out).unwrap();
+    [uss::PAUSE].into_iter().chain(telegram.iter().map(|byte| *byte as u16)).collect()
+}
+
+#[test]
+fn a_received_telegram_is_served() {
+    let line = line();
+    let (mut page, mut buffer, mut values) = ([0xAA; uss::BUFFER], [0; uss::BUFFER], [5, 6, 7]);
+    let received = uss::receive(Receiver::default(), &line, &mut page);
+    assert_eq!((received.taken, received.receiver), (line.len(), Receiver::default()));
+    let telegram = received.telegram.unwrap();
+    assert_eq!(telegram.len(), line.len() - 1);
+    let served = uss::serve(SETUP, &TABLE, &mut values, Words::default(), STATUS, telegram, &mut buffer);
+    assert!(matches!(served.answer, Answer::Replied(_)));
+    assert_eq!(page[line.len() - 1..], [0xAA; uss::BUFFER][line.len() - 1..]);
+}
+
+#[test]
+fn a_cut_does_not_show() {
+    let line = line();
+    let bytes: Vec<u8> = line[1..].iter().map(|item| *item as u8).collect();
+    for cut in 0..=line.len() {
+        let mut page = [0xAA; uss::BUFFER];
+        let first = uss::receive(Receiver::default(), &line[..cut], &mut page);
+        assert_eq!((first.taken, first.telegram.is_some()), (cut, cut == line.len()));
+        let second = uss::receive(first.receiver, &line[cut..], &mut page);
+        assert_eq!((second.taken, second.telegram.is_some(), second.receiver), (line.len() - cut, cut < line.len(), Receiver::default()));
+        assert_eq!(page[..bytes.len()], bytes[..]);
+    }
+    for cut in 0..bytes.len() {
+        let mut page = [0xAA; uss::BUFFER];
+        let first = uss::receive_bytes(uss::pause(Receiver::default()), &bytes[..cut], &mut page);
+        assert_eq!((first.taken, first.telegram, first.receiver.state), (cut, None, 1 + cut as u32));
+        let second = uss::receive_bytes(first.receiver, &bytes[cut..], &mut page);
+        assert_eq!(second.telegram, Some(&bytes[..]));
+    }
+}
+
+#[test]
+fn what_is_no_telegram_is_taken_and_ignored() {
+    let line = line();
+    let mut page = [0xAA; uss::BUFFER];
+    // without a pause, with another first byte, with an LGE that is none
+    for wrong in [&line[1..], &[256, 0x55], &[256, 2, 2], &[256, 2, 255], &[65535, 2, 256, 3]] {
+        let received = uss::receive(Receiver::default(), wrong, &mut page);
+        assert_eq!((received.taken, received.telegram, received.receiver), (wrong.len(), None, Receiver::default()));
+    }
+    assert_eq!(page[1..], [0xAA; uss::BUFFER][1..]);
+    // a page that is one byte too short, and none at all
+    let mut short = vec![0xAA; line.len() - 2];
+    let received = uss::receive(Receiver::default(), &line, &mut short);
+    assert_eq!((received.taken, received.telegram), (line.len(), None));
+    assert_eq!(uss::receive(Receiver { state: 1 }, &[2], &mut []).receiver, Receiver::default());
+    // numbers that no call gave
+    for state in [257, 1 << 31, u32::MAX] {
+        assert_eq!(uss::receive(Receiver { state }, &[], &mut page).receiver, Receiver::default());
+        assert_eq!(uss::receive_bytes(Receiver { state }, &[2], &mut page).receiver, Receiver::default());
+        assert_eq!(uss::pause(Receiver { state }), Receiver { state: 1 });
     }
 }

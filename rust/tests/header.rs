@@ -88,7 +88,7 @@ fn structs_are_the_headers() {
             let (of, names) = line.split_once(' ').unwrap();
             fields.extend(names.split(", ").map(|name| format!("pub {name}: {},", rust_type(of))));
         }
-        let source = if name == "Setup" || name == "Words" { LIB } else { RAW };
+        let source = if ["Setup", "Words", "Receiver"].contains(&name.as_str()) { LIB } else { RAW };
         let (before, after) = source.split_once(&format!("pub struct {name} {{")).expect(&name);
         assert!(before.rsplit("\n\n").next().unwrap().contains("#[repr(C)]\n"), "{name}");
         let own: Vec<&str> = after.split_once("\n}").unwrap().0.lines().map(str::trim).filter(|line| line.starts_with("pub ")).collect();
@@ -148,6 +148,7 @@ fn tasks_are_the_headers() {
 #[test]
 fn sizes_and_version_are_the_headers() {
     assert_eq!(uss::BUFFER.to_string(), macro_value("USS_BUFFER"));
+    assert_eq!(uss::PAUSE.to_string(), macro_value("USS_PAUSE"));
     assert_eq!(uss::LISTING.to_string(), macro_value("USS_LISTING"));
     assert_eq!(uss::RECORD.to_string(), macro_value("USS_RECORD"));
     assert_eq!(env!("CARGO_PKG_VERSION"), macro_value("USS_VERSION"));

@@ -1,5 +1,5 @@
-/* Each call once from C: known telegrams (K1 to K6, K9, K10 of document 01), bad use, and each rule of a table broken. Prints a line
- * for each group. */
+/* Each call once from C: known telegrams (K1 to K6, K9, K10 of document 01), bad use, each rule of a table broken, and lines for the
+ * receiver (W-201). Prints a line for each group. */
 #define _DEFAULT_SOURCE
 #include "uss.h"
 
@@ -235,10 +235,234 @@ static void broken_rules(void)
     puts("broken rules");
 }
 
+/* ---- the receiver */
+
+static const uss_receiver disarmed = {0}, armed = {1};
+
+static uss_receiver in_state(uint32_t state)
+{
+    uss_receiver r;
+    r.state = state;
+    return r;
+}
+
+static int gives(uss_received r, uint64_t taken, uint32_t length, uint32_t state)
+{
+    return r.taken == taken && r.length == length && r.receiver.state == state;
+}
+
+/* The bytes as items from a place on; where they end. */
+static size_t put_items(uint16_t *items, size_t at, const uint8_t *bytes, size_t len)
+{
+    size_t i;
+    for (i = 0; i < len; i++)
+        items[at + i] = bytes[i];
+    return at + len;
+}
+
+/* A pause and then bytes, in one call over a page of EE that ends where memory ends, as the items do. */
+static uss_received after_pause(const uint8_t *bytes, size_t len, uint8_t *page, size_t page_len)
+{
+    static uint16_t *end = NULL;
+    if (end == NULL)
+        end = (uint16_t *)(void *)at_the_end(2 * 300) + 300;
+    if (page_len > 0)
+        memset(page, 0xEE, page_len);
+    *(end - len - 1) = USS_PAUSE;
+    put_items(end - len, 0, bytes, len);
+    return uss_receive(disarmed, end - len - 1, len + 1, page, page_len);
+}
+
+static void received_telegrams(void)
+{
+    uint8_t *page = at_the_end(256), *bytes = at_the_end(20);
+    uint16_t items[64];
+    uss_received r;
+    size_t i, n;
+
+    r = after_pause(k2, 16, page, 256);
+    expect(gives(r, 17, 16, 0) && memcmp(page, k2, 16) == 0 && all_are(page, 16, 256, 0xEE), "a whole telegram");
+    n = put_items(items, 0, k3, 16);
+    expect(gives(uss_receive(r.receiver, items, n, page, 256), 16, 0, 0) && memcmp(page, k2, 16) == 0, "it is handed out once");
+    expect(gives(uss_receive(disarmed, items, n, page, 256), 16, 0, 0) && memcmp(page, k2, 16) == 0, "it starts disarmed");
+
+    memset(page, 0xEE, 256);
+    items[0] = USS_PAUSE;
+    r = uss_receive(disarmed, items, 1, page, 256);
+    expect(gives(r, 1, 0, 1), "a pause arms");
+    for (i = 0; i < 16; i++) {
+        items[0] = k2[i];
+        r = uss_receive(r.receiver, items, 1, page, 256);
+        expect(gives(r, 1, i == 15 ? 16 : 0, i == 15 ? 0 : (uint32_t)i + 2), "a single item");
+        expect(memcmp(page, k2, i + 1) == 0 && all_are(page, i + 1, 256, 0xEE), "a single item is written to its place");
+        expect(gives(uss_receive(r.receiver, NULL, 0, page, 256), 0, 0, r.receiver.state), "an empty call between two items");
+    }
+    memset(page, 0xEE, 256);
+    r.receiver = uss_pause(r.receiver);
+    expect(r.receiver.state == 1, "a pause after a telegram");
+    for (i = 0; i < 16; i++) {
+        r = uss_receive_bytes(r.receiver, k2 + i, 1, page, 256);
+        expect(gives(r, 1, i == 15 ? 16 : 0, i == 15 ? 0 : (uint32_t)i + 2), "a single byte");
+        expect(memcmp(page, k2, i + 1) == 0 && all_are(page, i + 1, 256, 0xEE), "a single byte is written to its place");
+    }
+    memcpy(bytes, k2, 16);
+    memcpy(bytes + 16, k3, 4);
+    expect(gives(uss_receive_bytes(armed, bytes, 20, page, 256), 16, 16, 0), "bytes behind a telegram are not taken");
+    expect(gives(uss_receive_bytes(armed, bytes + 1, 19, page, 256), 19, 0, 0), "bytes that are no telegram are taken");
+
+    items[0] = USS_PAUSE;
+    n = put_items(items, put_items(items, 1, k2, 16), k3, 16);
+    expect(gives(uss_receive(disarmed, items, n, page, 256), 17, 16, 0), "two back to back: the first");
+    expect(gives(uss_receive(disarmed, items + 17, n - 17, page, 256), 16, 0, 0), "two back to back: the second is lost");
+    items[17] = 65535; /* a pause too */
+    n = put_items(items, 18, k3, 16);
+    expect(gives(uss_receive(disarmed, items, n, page, 256), 17, 16, 0), "with a pause between: the first");
+    expect(gives(uss_receive(disarmed, items + 17, n - 17, page, 256), 17, 16, 0) && memcmp(page, k3, 16) == 0, "and the second");
+    n = put_items(items, 1, k2, 7);
+    items[n] = 65535;
+    items[n + 1] = USS_PAUSE;
+    n = put_items(items, n + 2, k3, 16);
+    expect(gives(uss_receive(disarmed, items, 9, page, 256), 9, 0, 1), "a pause inside drops and arms");
+    expect(gives(uss_receive(disarmed, items, n, page, 256), 26, 16, 0) && memcmp(page, k3, 16) == 0, "the next one comes out");
+    puts("received telegrams");
+}
+
+static void received_bytes_that_are_none(void)
+{
+    uint8_t *page = at_the_end(256), t[256];
+    uint32_t lge, first;
+    uss_received r;
+
+    memset(t, 0x11, 256);
+    for (first = 0; first < 256; first++) {
+        t[0] = (uint8_t)first;
+        r = after_pause(t, 1, page, 256);
+        expect(gives(r, 2, 0, first == 2 ? 2 : 0) && all_are(page, first == 2, 256, 0xEE), "only 02 opens");
+    }
+    t[0] = 0x02;
+    for (lge = 0; lge < 256; lge++) {
+        int good = lge >= 3 && lge <= 254;
+        t[1] = (uint8_t)lge;
+        r = after_pause(t, 2, page, 256);
+        expect(gives(r, 3, 0, good ? 3 : 0) && page[0] == 0x02 && page[1] == (good ? lge : 0xEE), "LGE 3 to 254 goes on");
+        r = after_pause(t, 256, page, 256);
+        expect(good ? gives(r, lge + 3, lge + 2, 0) : gives(r, 257, 0, 0), "LGE + 2 bytes come out");
+        expect(memcmp(page, t, good ? lge + 2 : 1) == 0 && all_are(page, good ? lge + 2 : 1, 256, 0xEE), "and no other is written");
+    }
+    memcpy(t, k2, 16);
+    memmove(t + 1, t, 16);
+    expect(gives(after_pause(t, 17, page, 256), 18, 0, 0) && all_are(page, 1, 256, 0xEE), "02 02: the second is no start");
+    t[0] = 0xFF;
+    expect(gives(after_pause(t, 17, page, 256), 18, 0, 0) && all_are(page, 0, 256, 0xEE), "a byte before the 02");
+    puts("received bytes that are no telegram");
+}
+
+/* A telegram that a page does not take disarms at its LGE; nothing is written past a page's end, nor past 256. */
+static void pages_of_other_lengths(void)
+{
+    static const uint8_t five[5] = {0x02, 0x03, 0x03, 0x55, 0x57}, six[6] = {0x02, 0x04, 0x03, 0x55, 0x66, 0x36};
+    uint8_t longest[257], *page;
+
+    page = at_the_end(5);
+    expect(gives(after_pause(five, 5, page, 5), 6, 5, 0) && memcmp(page, five, 5) == 0, "5 bytes on a page of 5");
+    expect(gives(after_pause(six, 6, page, 5), 7, 0, 0) && page[0] == 0x02 && all_are(page, 1, 5, 0xEE), "6 bytes on a page of 5");
+    page = at_the_end(4);
+    expect(gives(after_pause(five, 5, page, 4), 6, 0, 0) && page[0] == 0x02 && all_are(page, 1, 4, 0xEE), "5 bytes on a page of 4");
+    page = at_the_end(2);
+    expect(gives(after_pause(five, 2, page, 2), 3, 0, 0) && page[0] == 0x02 && page[1] == 0xEE, "a page of 2");
+    page = at_the_end(1);
+    expect(gives(after_pause(five, 1, page, 1), 2, 0, 2) && page[0] == 0x02, "a page of 1 takes the 02");
+    expect(gives(after_pause(five, 2, page, 1), 3, 0, 0) && page[0] == 0x02, "a page of 1 takes no more");
+    expect(gives(after_pause(five, 1, NULL, 0), 2, 0, 0), "a page of nothing");
+    expect(gives(uss_receive_bytes(armed, five, 5, NULL, 0), 5, 0, 0), "a page of nothing, bytes");
+    memset(longest, 0x33, 257);
+    longest[0] = 0x02;
+    longest[1] = 255;
+    page = at_the_end(300);
+    expect(gives(after_pause(longest, 257, page, 300), 258, 0, 0) && all_are(page, 1, 300, 0xEE), "257 bytes on a page of 300");
+    page[1] = 255;
+    expect(gives(uss_receive_bytes(in_state(255), longest + 2, 2, page, 300), 2, 0, 0) && page[255] == 0x33 && page[256] == 0xEE, "LGE changed to 255");
+    longest[1] = 254;
+    page = at_the_end(255);
+    expect(gives(after_pause(longest, 256, page, 255), 257, 0, 0) && all_are(page, 1, 255, 0xEE), "256 bytes on a page of 255");
+    longest[1] = 253;
+    expect(gives(after_pause(longest, 255, page, 255), 256, 255, 0) && memcmp(page, longest, 255) == 0, "255 bytes on a page of 255");
+    puts("pages of other lengths");
+}
+
+/* Numbers that no call gave back, and a page that somebody changed. */
+static void other_states(void)
+{
+    static const uint32_t none_of_these[] = {257, 258, 65536, 0x80000000u, 0xFFFFFFFFu};
+    uint8_t *page = at_the_end(256), *end = at_the_end(0), byte = 0x77;
+    uint16_t item = 0x77, pause = USS_PAUSE;
+    uint32_t i;
+
+    for (i = 0; i < sizeof none_of_these / sizeof none_of_these[0]; i++) {
+        uss_receiver strange = in_state(none_of_these[i]);
+        expect(gives(uss_receive(strange, NULL, 0, page, 256), 0, 0, 0), "a strange state, no items");
+        expect(gives(uss_receive_bytes(strange, NULL, 0, page, 256), 0, 0, 0), "a strange state, no bytes");
+        expect(gives(uss_receive(strange, &item, 1, page, 256), 1, 0, 0), "a strange state, an item");
+        expect(gives(uss_receive(strange, &pause, 1, page, 256), 1, 0, 1), "a strange state, a pause");
+        expect(gives(uss_receive_bytes(strange, &byte, 1, page, 256), 1, 0, 0), "a strange state, a byte");
+        expect(uss_pause(strange).state == 1, "a strange state, a pause by itself");
+    }
+    for (i = 0; i <= 256; i++) {
+        expect(gives(uss_receive(in_state(i), NULL, 0, page, 256), 0, 0, i), "a state is kept");
+        expect(gives(uss_receive_bytes(in_state(i), end, 0, page, 256), 0, 0, i), "a state is kept, of bytes");
+        expect(gives(uss_receive(in_state(i), NULL, 0, page + 246, 10), 0, 0, i <= 11 ? i : 0), "more bytes than the page has");
+        expect(gives(uss_receive(in_state(i), &pause, 1, page, 256), 1, 0, 1) && uss_pause(in_state(i)).state == 1, "a pause arms each");
+    }
+    expect(gives(uss_receive(armed, NULL, 0, NULL, 0), 0, 0, 1), "nothing at all, armed");
+    expect(gives(uss_receive(disarmed, NULL, 0, NULL, 0), 0, 0, 0), "nothing at all, disarmed");
+    expect(gives(uss_receive_bytes(in_state(2), end, 0, end, 0), 0, 0, 0), "nothing at all, and a byte held");
+    expect(all_are(page, 0, 256, 0xEE), "nothing was written");
+    expect(gives(uss_receive(in_state(11), &item, 1, page + 246, 10), 1, 0, 0) && all_are(page, 0, 256, 0xEE), "a full page");
+    page[247] = 9;
+    expect(gives(uss_receive(in_state(10), &item, 1, page + 246, 10), 1, 0, 11) && page[255] == 0x77, "its last byte, no telegram's");
+    page[247] = 8;
+    expect(gives(uss_receive(in_state(10), &item, 1, page + 246, 10), 1, 10, 0), "its last byte, a telegram's");
+    page[1] = 253;
+    expect(gives(uss_receive_bytes(in_state(256), &byte, 1, page, 256), 1, 0, 0) && page[255] == 0x77, "the 256th, LGE changed to 253");
+    page[1] = 255;
+    expect(gives(uss_receive(in_state(256), &item, 1, page, 256), 1, 0, 0), "the 256th, LGE changed to 255");
+    page[1] = 254;
+    expect(gives(uss_receive(in_state(256), &item, 1, page, 256), 1, 256, 0), "the 256th of 256");
+    puts("other states");
+}
+
+/* A telegram of 16 bytes whose LGE reads 254 waits for more; the pause behind it ends that, and the next one is answered. */
+static void received_and_answered(void)
+{
+    uint8_t *page = at_the_end(256), *reply = at_the_end(256);
+    uint16_t items[34];
+    uint32_t value = 5000;
+    uss_received r;
+    uss_answer a;
+
+    items[0] = items[17] = USS_PAUSE;
+    put_items(items, 1, k2, 16);
+    put_items(items, 18, k2, 16);
+    items[2] = 254;
+    r = uss_receive(disarmed, items, 17, page, 256);
+    expect(gives(r, 17, 0, 17), "LGE 254: more is waited for");
+    r = uss_receive(r.receiver, items + 17, 17, page, 256);
+    expect(gives(r, 17, 16, 0) && memcmp(page, k2, 16) == 0, "the next telegram comes out by its last byte");
+    a = uss_slave(setup, record, 12, &value, 1, held, status, page, r.length, reply, 256);
+    expect(a.number == USS_REPLIED && a.length == 16 && memcmp(reply, k3, 16) == 0, "and is answered");
+    items[33] ^= 1;
+    r = uss_receive(disarmed, items + 17, 17, page, 256);
+    a = uss_slave(setup, record, 12, &value, 1, held, status, page, r.length, reply, 256);
+    expect(gives(r, 17, 16, 0) && a.number == USS_CHECK, "a wrong BCC comes out too, and is the slave's to refuse");
+    puts("received and answered");
+}
+
 static void layouts(void)
 {
-    expect(sizeof(uss_setup) == 3 && sizeof(uss_words) == 8 && sizeof(uss_answer) == 16 && sizeof(uss_built) == 8 && sizeof(uss_reply) == 20
-           && sizeof(uss_table_check) == 16, "sizes");
+    expect(sizeof(uss_setup) == 3 && sizeof(uss_words) == 8 && sizeof(uss_receiver) == 4 && sizeof(uss_received) == 16
+           && sizeof(uss_answer) == 16 && sizeof(uss_built) == 8 && sizeof(uss_reply) == 20 && sizeof(uss_table_check) == 16, "sizes");
+    expect(offsetof(uss_received, taken) == 0 && offsetof(uss_received, length) == 8 && offsetof(uss_received, receiver) == 12
+           && offsetof(uss_receiver, state) == 0, "places of the receiver");
     expect(offsetof(uss_answer, control) == 8 && offsetof(uss_reply, process) == 12, "places");
     puts("layouts");
 }
@@ -251,6 +475,11 @@ int main(void)
     lying_lengths();
     empty_slices();
     broken_rules();
+    received_telegrams();
+    received_bytes_that_are_none();
+    pages_of_other_lengths();
+    other_states();
+    received_and_answered();
     if (!failed)
         puts("all as expected");
     return failed;

@@ -41,8 +41,25 @@ struct TableCheck {
     place: u32,
 }
 
+#[repr(C)]
+#[derive(Clone, Copy)]
+struct Receiver {
+    state: u32,
+}
+
+#[repr(C)]
+#[derive(Clone, Copy)]
+struct Received {
+    taken: u64,
+    length: u32,
+    receiver: Receiver,
+}
+
 #[link(name = "uss_c", kind = "static")]
 extern "C" {
+    fn uss_receive(receiver: Receiver, items: *const u16, item_count: usize, page: *mut u8, page_len: usize) -> Received;
+    fn uss_receive_bytes(receiver: Receiver, bytes: *const u8, byte_count: usize, page: *mut u8, page_len: usize) -> Received;
+    fn uss_pause(receiver: Receiver) -> Receiver;
     fn uss_slave(
         setup: Setup, table: *const u8, table_len: usize, values: *mut u32, value_count: usize, control: Words,
         status: Words, received: *const u8, received_len: usize, reply: *mut u8, reply_len: usize,
@@ -508,6 +525,89 @@ fn damage_telegram(d: &mut Dice, mut t: Vec<u8>) -> Vec<u8> {
     t
 }
 
+// ---- items of a line
+
+/// Lengths of a receiver's page that are drawn most.
+const ROOMS: [usize; 8] = [0, 1, 2, 4, 5, 255, 256, 300];
+
+fn any_pause(d: &mut Dice) -> u16 {
+    match d.below(4) {
+        0 => d.pick(&[257, 258, 511, 512, 0x0202, 0xFF02, 65535]),
+        1 => 256 + d.below(65536 - 256) as u16,
+        _ => 256,
+    }
+}
+
+/// An LGE about the ends of its range, about what just fits the page, or any.
+fn any_lge(d: &mut Dice, room: usize) -> u8 {
+    match d.below(8) {
+        0 => d.pick(&[3, 4, 253, 254]),
+        1 => (room as u8).wrapping_sub(1 + d.below(3) as u8),
+        2 => d.next() as u8,
+        _ => 3 + d.below(24) as u8,
+    }
+}
+
+/// Bytes as they come after a pause: a telegram, whole or cut, alone or with more behind it; its start; or noise.
+fn any_run(d: &mut Dice, room: usize) -> Vec<u8> {
+    let noise = { let n = d.pick(&[0, 1, 2, 5, 20, 60]); d.bytes(n) };
+    let lge = any_lge(d, room);
+    let mut run = match d.below(16) {
+        0 => return noise,
+        1 => return [&[2], &noise[..]].concat(),
+        2 => return [&[2, d.pick(&[0, 1, 2, 3, 254, 255])], &noise[..]].concat(),
+        3 => return [&[2, 2], &noise[..]].concat(),
+        _ if !(3..=254).contains(&lge) => return [&[2, lge], &noise[..]].concat(),
+        _ => { let net = d.bytes(lge as usize - 2); model::seal(d.next() as u8, &net) }
+    };
+    match d.below(12) {
+        0 | 1 => run.truncate(d.below(run.len() as u64 + 1) as usize),
+        2 => run.extend_from_slice(&noise),
+        3 => run.extend_from_within(..),
+        4 => run.insert(0, d.next() as u8),
+        5 => { let k = d.below(run.len() as u64) as usize; run[k] ^= 1 << d.below(8) }
+        _ => {}
+    }
+    run
+}
+
+/// Runs with pauses between them, mostly one, and now and then one inside. Where bytes are held, the first run mostly goes on with them.
+fn any_items(d: &mut Dice, room: usize, held: bool) -> Vec<u16> {
+    let mut items = vec![];
+    for k in 0..d.below(6) {
+        let goes_on = held && k == 0 && !d.one_in(4);
+        for _ in 0..if goes_on { 0 } else { d.pick(&[0, 1, 1, 1, 1, 1, 1, 2]) } {
+            items.push(any_pause(d));
+        }
+        let start = items.len();
+        items.extend(any_run(d, room).iter().map(|byte| *byte as u16));
+        if d.one_in(8) {
+            let at = start + d.below((items.len() - start) as u64 + 1) as usize;
+            items.insert(at, any_pause(d));
+        }
+    }
+    items
+}
+
+/// A state and a page as a call may find them: those of the start, or any at all.
+fn any_start(d: &mut Dice, room: usize) -> (u32, Vec<u8>) {
+    let mut page = d.bytes(room);
+    if room >= 2 && !d.one_in(4) {
+        page[0] = 2;
+        page[1] = if d.one_in(4) { d.pick(&[0, 1, 2, 3, 254, 255]) } else { any_lge(d, room) };
+    }
+    let end = room as u32;
+    let state = match d.below(10) {
+        0 => 1,
+        1 => d.pick(&[2, 3, 4, 255, 256, 257, 258, 1 << 16, 1 << 31, u32::MAX - 1, u32::MAX, end, end + 1, end + 2]),
+        2 => 2 + d.below(room as u64 + 1) as u32,
+        3 => (end.min(256) + 1).saturating_sub(d.below(30) as u32),
+        4 => d.next() as u32,
+        _ => 0,
+    };
+    (state, page)
+}
+
 // ---- counts
 
 #[derive(Default)]
@@ -520,6 +620,10 @@ impl Counts {
 
     fn total(&self, what: &str) -> u64 {
         self.0.get(what).map_or(0, |m| m.values().sum())
+    }
+
+    fn count(&self, what: &str, which: u32) -> u64 {
+        self.0.get(what).and_then(|m| m.get(&which)).copied().unwrap_or(0)
     }
 
     /// Prints a line and returns whether each of `wanted` was met `floor` times, and nothing else was.
@@ -546,6 +650,26 @@ struct Bench {
     received: Arena,
     out: Arena,
     counts: Counts,
+    /// Items that the receiver took.
+    items: u64,
+}
+
+/// The receiver's call that is made.
+#[derive(Clone, Copy)]
+enum By {
+    Items,
+    Bytes,
+    Pause,
+}
+
+impl By {
+    fn call(self) -> &'static str {
+        match self {
+            By::Items => "receive",
+            By::Bytes => "receive bytes",
+            By::Pause => "pause",
+        }
+    }
 }
 
 fn differ(what: &str, shown: String) -> ! {
@@ -698,6 +822,47 @@ impl Bench {
             differ("uss_bcc", hex(&bytes));
         }
         self.counts.met("bcc", 0);
+    }
+
+    /// One call of the receiver on both sides; the page takes what it leaves.
+    fn receive(&mut self, d: &mut Dice, by: By, state: u32, page: &mut Vec<u8>, items: &[u16]) -> Received {
+        let start = d.one_in(4);
+        let bytes: Vec<u8> = match by {
+            By::Bytes => items.iter().map(|item| *item as u8).collect(),
+            _ => items.iter().flat_map(|item| item.to_ne_bytes()).collect(),
+        };
+        let got = self.received.lend(&bytes, start);
+        let left = self.out.lend(page, start);
+        let given = Receiver { state };
+        let r = unsafe {
+            match by {
+                By::Items => uss_receive(given, got.at as *const u16, items.len(), left.at, left.len),
+                By::Bytes => uss_receive_bytes(given, got.at, got.len, left.at, left.len),
+                By::Pause => Received { taken: 1, length: 0, receiver: uss_pause(given) },
+            }
+        };
+        let mut want = model::receive(state, page, items);
+        let (taken, length) = want.telegrams.first().map_or((items.len(), 0), |(taken, telegram)| (*taken, telegram.len()));
+        if taken < items.len() {
+            want = model::receive(state, page, &items[..taken]);
+        }
+        let good = r.taken == taken as u64
+            && r.length as usize == length
+            && r.receiver.state == want.state
+            && left.margin_kept()
+            && left.now() == &want.page[..]
+            && got.untouched();
+        if !good {
+            differ(by.call(), format!(
+                "state {state}, items {items:X?}\npage of {} {}\ntaken {} length {} state {}, expected {taken} {length} {}\npage {}\nexpected {}",
+                page.len(), hex(page), r.taken, r.length, r.receiver.state, want.state, hex(left.now()), hex(&want.page)
+            ));
+        }
+        page.clone_from(&want.page);
+        let kind = if length > 0 { 3 } else { r.receiver.state.min(2) };
+        self.counts.met(by.call(), kind);
+        self.items += taken as u64;
+        r
     }
 
     fn check_table(&mut self, d: &mut Dice, bytes: &[u8], numbers: &[u32]) {
@@ -875,6 +1040,65 @@ fn slips(b: &mut Bench, d: &mut Dice) {
     b.check_table(d, &table, &values);
 }
 
+/// A line of items from any state and page, cut into calls in any way, with what was not taken fed again: what is handed out, the end
+/// state and the page are those of the whole list.
+fn line(b: &mut Bench, d: &mut Dice) {
+    let room = match d.below(8) {
+        0 => d.below(300) as usize,
+        1..=3 => 256,
+        _ => d.pick(&ROOMS),
+    };
+    let (given, first_page) = any_start(d, room);
+    let items = any_items(d, room, given > 1);
+    let want = model::receive(given, &first_page, &items);
+    let (mut state, mut page) = (given, first_page.clone());
+    let (mut at, mut telegrams, way) = (0, vec![], d.below(4));
+    loop {
+        let rest = &items[at..];
+        let run = rest.iter().take_while(|item| **item < 256).count();
+        let most = d.pick(&[1, 2, 4, 16, 300]);
+        let n = match way {
+            0 => rest.len(),
+            1 => 1,
+            2 => d.below(most + 1) as usize,
+            _ => run.max(1),
+        };
+        let part = &rest[..n.min(rest.len())];
+        let by = match part {
+            _ if way != 3 && d.one_in(2) => By::Items,
+            [item] if *item > 255 => By::Pause,
+            _ if part.len() <= run => By::Bytes,
+            _ => By::Items,
+        };
+        let r = b.receive(d, by, state, &mut page, part);
+        state = r.receiver.state;
+        at += r.taken as usize;
+        if r.length > 0 {
+            telegrams.push((at, page[..r.length as usize].to_vec()));
+        } else if rest.is_empty() {
+            break;
+        }
+    }
+    if telegrams != want.telegrams || state != want.state || page != want.page {
+        differ("the receiver over a whole line", format!(
+            "state {given}, page of {room} {}\nitems {items:X?}\nhanded out {telegrams:X?}\nexpected {:X?}\nstate {state}, expected {}\npage {}\nexpected {}",
+            hex(&first_page), want.telegrams, want.state, hex(&page), hex(&want.page)
+        ));
+    }
+    for (_, telegram) in &telegrams {
+        // a receiver that starts disarmed or armed hands out nothing that is refused with 10 to 13
+        if given <= 1 && matches!(model::frame(telegram), Err(10..=13)) {
+            differ("what the receiver hands out", hex(telegram));
+        }
+        if [3, 4, 253, 254].contains(&telegram[1]) {
+            b.counts.met("LGE handed out", telegram[1] as u32);
+        }
+    }
+    if ROOMS.contains(&room) {
+        b.counts.met("receiver's page", room as u32);
+    }
+}
+
 fn main() {
     let args: Vec<u64> = std::env::args().skip(1).map(|a| a.parse().expect("a number")).collect();
     let seed = args.first().copied().unwrap_or(20240601);
@@ -887,8 +1111,11 @@ fn main() {
         received: Arena::new(2),
         out: Arena::new(2),
         counts: Counts::default(),
+        items: 0,
     };
+    let mut lines = Dice(!seed);
     for _ in 0..rounds {
+        line(&mut b, &mut lines);
         sequence(&mut b, &mut d);
         conversation(&mut b, &mut d);
         orders(&mut b, &mut d);
@@ -901,8 +1128,12 @@ fn main() {
         }
     }
     let c = &b.counts;
-    let calls: u64 = ["slave answer", "build task", "build mirror", "build broadcast", "read", "list", "bcc", "rule"].iter().map(|w| c.total(w)).sum();
+    let receiving: u64 = ["receive", "receive bytes", "pause"].iter().map(|w| c.total(w)).sum();
+    let others = ["slave answer", "build task", "build mirror", "build broadcast", "read", "list", "bcc", "rule"];
+    let calls: u64 = receiving + others.iter().map(|w| c.total(w)).sum::<u64>();
     println!("calls {calls}, of them {} of the slave", c.total("slave answer"));
+    let handed_out = c.count("receive", 3) + c.count("receive bytes", 3);
+    println!("receiver: items {}, calls {receiving}, telegrams handed out {handed_out}", b.items);
     // floors hold for the default number of rounds and scale with it
     let floor = 1000 * rounds / 100_000;
     let mut good = true;
@@ -919,6 +1150,16 @@ fn main() {
     good &= c.report("list", &[0, 1, 2, 10, 11, 12, 13, 14, 15, 99], floor);
     good &= c.report("bcc", &[0], floor);
     good &= c.report("rule", &(0..12).collect::<Vec<u32>>(), floor);
+    // the state left: 0 disarmed, 1 armed, 2 inside a telegram; 3: a telegram was handed out
+    good &= c.report("receive", &[0, 1, 2, 3], floor);
+    good &= c.report("receive bytes", &[0, 1, 2, 3], floor);
+    good &= c.report("pause", &[1], floor);
+    good &= c.report("LGE handed out", &[3, 4, 253, 254], floor);
+    good &= c.report("receiver's page", &ROOMS.map(|room| room as u32), floor);
+    if b.items < 1_000_000 && rounds >= 100_000 {
+        println!("fewer than a million items");
+        good = false;
+    }
     if calls < 1_000_000 && rounds >= 100_000 {
         println!("fewer than a million calls");
         good = false;

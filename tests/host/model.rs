@@ -1,4 +1,5 @@
-//! Document 01 a second time, written from its text alone, to compare the library with. Everything is plain and slow.
+//! Document 01, and the receiver of W-201, a second time, written from their text alone, to compare the library with. Everything is plain
+//! and slow.
 
 #[repr(C)]
 #[derive(Clone, Copy, PartialEq, Eq, Debug)]
@@ -508,6 +509,90 @@ pub fn read_reply(s: Setup, t: &Task, received: &[u8]) -> Read {
         return refuse(33);
     }
     Read { number: 0, id: id as u32, value: (high as u32) << 16 | low as u32, process }
+}
+
+// ---- receiver: by the list of all items, and not item by item
+
+/// What a list of items has to leave.
+pub struct Heard {
+    /// The telegrams handed out, each with the count of items up to its last byte.
+    pub telegrams: Vec<(usize, Vec<u8>)>,
+    pub state: u32,
+    pub page: Vec<u8>,
+}
+
+/// What a run of bytes between two pauses comes to: how many of its first bytes are left on the page, whether these are a whole
+/// telegram, and the state at its end.
+struct Run {
+    kept: usize,
+    whole: bool,
+    state: u32,
+}
+
+fn lost(kept: usize) -> Run {
+    Run { kept, whole: false, state: 0 }
+}
+
+/// The telegram has `length` bytes: the run starts with all of them, or may still get them.
+fn so_far(bytes: &[u8], length: usize) -> Run {
+    if bytes.len() >= length {
+        Run { kept: length, whole: true, state: 0 }
+    } else {
+        Run { kept: bytes.len(), whole: false, state: 1 + bytes.len() as u32 }
+    }
+}
+
+/// A run directly after a pause, for a page of `room` bytes.
+fn fresh_run(bytes: &[u8], room: usize) -> Run {
+    match bytes {
+        // the shortest telegram has 5 bytes
+        [] | [2] if bytes.len() <= room => so_far(bytes, 5),
+        [2, lge, ..] if (3..=254).contains(lge) && *lge as usize + 2 <= room => so_far(bytes, *lge as usize + 2),
+        [2, ..] => lost(room.min(1)),
+        _ => lost(0),
+    }
+}
+
+/// A run that goes on with what the page has, `held` bytes, which somebody else may have put there: no byte held is tested again, and
+/// an LGE among them that ends no telegram on this page lets the bytes run to the page's end, or to 256.
+fn held_run(bytes: &[u8], held: usize, room: usize) -> Run {
+    if held == 1 {
+        return fresh_run(&[&[2], &bytes[1..]].concat(), room);
+    }
+    let (length, most) = (bytes[1] as usize + 2, room.min(256));
+    if held < length && length <= most {
+        so_far(bytes, length)
+    } else if bytes.len() > most || bytes.len() == 256 {
+        lost(most)
+    } else {
+        so_far(bytes, usize::MAX)
+    }
+}
+
+pub fn receive(state: u32, page: &[u8], items: &[u16]) -> Heard {
+    let mut heard = Heard { telegrams: vec![], state, page: page.to_vec() };
+    let mut first = 0;
+    for (k, run) in items.split(|item| *item > 255).enumerate() {
+        let held = match state {
+            2..=256 if k == 0 => state as usize - 1,
+            _ => 0,
+        };
+        let disarmed = k == 0 && (state == 0 || state > 256 || held > page.len());
+        let mut bytes = if disarmed { vec![] } else { heard.page[..held].to_vec() };
+        bytes.extend(run.iter().map(|item| *item as u8));
+        let found = match held {
+            _ if disarmed => lost(0),
+            0 => fresh_run(&bytes, page.len()),
+            _ => held_run(&bytes, held, page.len()),
+        };
+        heard.page[..found.kept].copy_from_slice(&bytes[..found.kept]);
+        if found.whole {
+            heard.telegrams.push((first + found.kept - held, bytes[..found.kept].to_vec()));
+        }
+        heard.state = found.state;
+        first += run.len() + 1;
+    }
+    heard
 }
 
 // ---- listing

@@ -10,9 +10,9 @@ import header
 # what the driver draws with care: name -> type; of slices the element's type
 DRAWN = {"setup": "uss_setup", "control": "uss_words", "status": "uss_words", "process": "uss_words", "task": "uint8_t",
          "parameter": "uint16_t", "index": "uint8_t", "value": "uint32_t", "selector": "uint16_t", "mask1": "uint16_t",
-         "mask2": "uint16_t"}
+         "mask2": "uint16_t", "receiver": "uss_receiver"}
 SLICES = {"table": "uint8_t", "values": "uint32_t", "received": "uint8_t", "net": "uint8_t", "bytes": "uint8_t", "reply": "uint8_t",
-          "out": "uint8_t"}
+          "out": "uint8_t", "items": "uint16_t", "page": "uint8_t"}
 
 
 def leaves(head, type_, place):
@@ -68,7 +68,7 @@ def drawer(head, call):
                       for e, n in leaves(head, p.type, f"any_{p.name}")]
             given.append(f"any_{p.name}")
     plain = {n.rstrip("0123456789") for n in names}
-    wanted = f"{int('table' in plain)}, {int('task' in names)}"
+    wanted = ", ".join(str(int(name in of)) for name, of in (("table", plain), ("task", names), ("receiver", names)))
     return "\n".join([f"static void random_{call.name}(void)", "{", f"    draw_call({wanted});", *lines,
                       f"    do_{call.name}({', '.join(given)});", "}", ""])
 

@@ -158,7 +158,38 @@ static void draw_telegram(uint32_t asked, int with_task)
     drawn.received.count = draw(40) == 0 ? draw(262) : len;
 }
 
-static void draw_call(int with_table, int with_task)
+/* A receiver that has some bytes of the telegram in the room, its page, and is given the others: as items, with a pause before, behind
+ * or among them, and as bytes. Good but for chance damage. */
+static void draw_receiver(void)
+{
+    static const uint16_t rooms[8] = {0, 1, 2, 4, 5, 255, 257, 300};
+    uint32_t len = drawn.received.count > 258 ? 258 : (uint32_t)drawn.received.count, held = draw(2) || len == 0 ? 0 : draw(len), i;
+    size_t count = 0;
+    drawn.receiver = in_state(1 + held);
+    if (held == 0 && draw(2)) { /* the telegram from its pause on */
+        drawn.receiver = in_state(draw(4));
+        line[count++] = (uint16_t)(draw(4) == 0 ? 256 + draw(65280) : USS_PAUSE);
+    }
+    for (i = 0; i < held; i++)
+        room[i] = page[i];
+    count = put_items(count, page + held, len - held);
+    for (i = draw(3) == 0 ? draw(40) : 0; i > 0; i--)
+        line[count++] = (uint16_t)draw(draw(8) == 0 ? 512 : 256);
+    if (draw(8) == 0)
+        line[draw((uint32_t)count + 1)] = (uint16_t)(256 + draw(3));
+    if (draw(12) == 0)
+        drawn.receiver = in_state(draw(2) ? draw_bits() : 250 + draw(10));
+    drawn.items.at = line;
+    drawn.items.count = draw(4) == 0 ? draw((uint32_t)count + 1) : count;
+    drawn.bytes.at = page + held;
+    drawn.bytes.count = draw(4) == 0 ? draw(len - held + 1) : 260 - held - draw(3);
+    drawn.page.at = room;
+    drawn.page.count = draw(4) == 0 ? rooms[draw(8)] : draw(8) == 0 ? draw(300) : 256;
+    if (draw(30) == 0)
+        drawn.receiver = in_state((uint32_t)drawn.page.count + draw(3));
+}
+
+static void draw_call(int with_table, int with_task, int with_receiver)
 {
     uint32_t asked = draw(32768);
     drawn.values.count = 0;
@@ -182,4 +213,6 @@ static void draw_call(int with_table, int with_task)
     drawn.out.count = draw(8) == 0 ? draw(66) : draw(30) == 0 ? draw(256) : 256 + draw(3);
     drawn.reply.at = room;
     drawn.reply.count = draw(60) == 0 ? draw(256) : 256 + draw(3);
+    if (with_receiver)
+        draw_receiver();
 }

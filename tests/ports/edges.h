@@ -1,4 +1,5 @@
-/* A part of driver.c: the edges of set-ups, frames, buffers, tasks, pages, limits, tables, broadcasts, requests and replies. */
+/* A part of driver.c: the edges of set-ups, frames, buffers, tasks, pages, limits, tables, broadcasts, requests, replies, states of a
+ * receiver and lines. */
 
 /* ---- edges */
 
@@ -257,4 +258,62 @@ static void edges_of_replies(void)
                 do_uss_read_reply(s, (uint8_t)task, number, index, 0, words(1, 0, 0, 0), page, len);
             }
         }
+}
+
+/* States about the limits of a receiver's page and about 256, with each LGE about them on the page: a byte, a pause, nothing. */
+static void edges_of_states(void)
+{
+    static const uint16_t lengths[8] = {0, 1, 2, 5, 254, 255, 256, 257};
+    static const uint32_t states[10] = {0, 1, 2, 3, 4, 255, 256, 257, 0x10000, 0xFFFFFFFFu};
+    uint32_t i, k, lge;
+    line[0] = 0x77;
+    line[1] = USS_PAUSE;
+    page[0] = 2;
+    for (i = 0; i < 8; i++)
+        for (k = 0; k < 14; k++)
+            for (lge = 0; lge < 6; lge++) {
+                uint32_t number = k < 10 ? states[k] : lengths[i] + k - 10;
+                uint8_t said = (uint8_t)(lge < 3 ? lengths[i] + lge - 3 : 250 + lge); /* what ends at the page's end, and 253 to 255 */
+                fill_room(0xEE);
+                room[1] = said;
+                do_uss_receive(in_state(number), line, lge & 1, room, lengths[i]);
+                do_uss_receive(in_state(number), line + 1, 1, room, lengths[i]);
+                do_uss_receive_bytes(in_state(number), page, 1 + (lge & 1), room, lengths[i]);
+            }
+    for (k = 0; k < 14; k++)
+        do_uss_pause(in_state(k < 10 ? states[k] : 1u << k));
+}
+
+/* Every first byte, every LGE with all its bytes and one more, every cut of a line into two calls, by items and by bytes. */
+static void edges_of_lines(void)
+{
+    uint32_t i, len;
+    for (i = 0; i < 260; i++)
+        page[i] = (uint8_t)(5 * i + 1);
+    for (i = 0; i < 256; i++) {
+        page[0] = (uint8_t)i;
+        hear(page, 2, 256);
+    }
+    page[0] = 2;
+    for (i = 0; i < 256; i++) {
+        page[1] = (uint8_t)i;
+        hear(page, i + 3, 256);
+        fill_room(0xEE);
+        do_uss_receive_bytes(in_state(1), page, i + 3, room, 255);
+    }
+    len = (uint32_t)put_telegram(usual, 3, head_of(USS_READ, 1082, 0), 0, held);
+    line[0] = USS_PAUSE;
+    line[len + 1] = 0x102;
+    put_items(1, page, len);
+    for (i = 0; i <= len + 2; i++) {
+        uss_received r;
+        fill_room(0xEE);
+        r = do_uss_receive(in_state(0), line, i, room, 256);
+        do_uss_receive(r.receiver, line + r.taken, len + 2 - (uint32_t)r.taken, room, 256);
+        if (i <= len) {
+            fill_room(0xEE);
+            r = do_uss_receive_bytes(do_uss_pause(in_state(0)), page, i, room, 256);
+            do_uss_receive_bytes(r.receiver, page + i, len - i, room, 256);
+        }
+    }
 }

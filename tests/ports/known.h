@@ -1,4 +1,4 @@
-/* A part of driver.c: the known telegrams of document 01, each answer number, each parameter error. */
+/* A part of driver.c: the known telegrams of document 01, lines for the receiver, each answer number, each parameter error. */
 
 /* ---- known telegrams: K1 to K12 of document 01 */
 
@@ -183,6 +183,76 @@ static void known_values(void)
     holds &= serve(usual, 1, 2, 256).number == USS_LGE;
     page[1] = 255;
     check("LGE 2, 254, 255", holds && serve(usual, 1, 2, 256).number == USS_LGE);
+}
+
+/* ---- lines for the receiver */
+
+static int is_received(uss_received r, size_t taken, uint32_t length, uint32_t state_left)
+{
+    return r.taken == taken && r.length == length && r.receiver.state == state_left;
+}
+
+/* A pause and `len` bytes as one line, over the first `page_len` bytes of the room. */
+static uss_received hear(const uint8_t *bytes, size_t len, size_t page_len)
+{
+    fill_room(0xEE);
+    line[0] = USS_PAUSE;
+    put_items(1, bytes, len);
+    return do_uss_receive(in_state(0), line, len + 1, room, page_len);
+}
+
+static void known_lines(void)
+{
+    static const uint8_t five[5] = {0x02, 0x03, 0x03, 0x55, 0x57}, twice[3] = {0x02, 0x02, 0x0E};
+    uss_received r = hear(k2, 16, 256);
+    size_t i, n;
+    int holds;
+
+    check("a telegram is received", is_received(r, 17, 16, 0) && equal(room, k2, 16) && room[16] == 0xEE);
+    r = do_uss_receive(r.receiver, line + 1, 16, room, 256);
+    check("the second without a pause is lost", is_received(r, 16, 0, 0));
+    fill_room(0xEE);
+    r.receiver = do_uss_pause(r.receiver);
+    holds = r.receiver.state == 1;
+    for (i = 0; i < 16; i++) {
+        r = i % 2 ? do_uss_receive_bytes(r.receiver, k2 + i, 1, room, 256) : do_uss_receive(r.receiver, line + 1 + i, 1, room, 256);
+        holds &= is_received(r, 1, i == 15 ? 16 : 0, i == 15 ? 0 : (uint32_t)i + 2) && room[i] == k2[i] && room[i + 1] == 0xEE;
+    }
+    check("single items and bytes", holds);
+    r = do_uss_receive_bytes(in_state(1), page, 0, room, 256);
+    check("no bytes", is_received(r, 0, 0, 1));
+    n = put_items(1, k2, 7);
+    line[n] = 65535;
+    n = put_items(n + 1, k3, 16);
+    r = do_uss_receive(in_state(0), line, n, room, 256);
+    check("a pause inside", is_received(r, 25, 16, 0) && equal(room, k3, 16));
+    check("02 02", is_received(hear(twice, 3, 256), 4, 0, 0) && room[0] == 2 && room[1] == 0xEE);
+    for (i = 0; i < 257; i++)
+        page[i] = (uint8_t)(7 * i);
+    page[0] = 2;
+    page[1] = 254;
+    holds = is_received(hear(page, 256, 256), 257, 256, 0) && is_received(hear(page, 256, 255), 257, 0, 0);
+    page[1] = 255;
+    holds &= is_received(hear(page, 257, 300), 258, 0, 0) && room[1] == 0xEE;
+    page[1] = 2;
+    check("LGE 2, 254, 255 received", holds && is_received(hear(page, 4, 256), 5, 0, 0) && room[1] == 0xEE);
+    holds = is_received(hear(five, 5, 5), 6, 5, 0) && room[4] == 0x57 && room[5] == 0xEE;
+    check("pages of 5 and 4", holds && is_received(hear(five, 5, 4), 6, 0, 0) && room[1] == 0xEE);
+    holds = is_received(do_uss_receive(in_state(257), line, 0, room, 256), 0, 0, 0);
+    holds &= is_received(do_uss_receive(in_state(0xFFFFFFFFu), line, 1, room, 256), 1, 0, 1);
+    holds &= is_received(do_uss_receive_bytes(in_state(6), page, 0, room, 4), 0, 0, 0);
+    holds &= is_received(do_uss_receive_bytes(in_state(5), page, 0, room, 4), 0, 0, 5);
+    check("states that are none", holds && do_uss_pause(in_state(257)).state == 1);
+    usual_table();
+    n = put_items(1, k2, 16);
+    line[2] = 254; /* of 16 bytes; more is waited for, up to the pause */
+    line[n] = USS_PAUSE;
+    n = put_items(n + 1, k2, 16);
+    r = do_uss_receive(in_state(0), line, n, room, 256);
+    for (i = 0; i < 16; i++)
+        page[i] = room[i];
+    check("a false LGE, and the next is answered", is_received(r, 34, 16, 0) && serve(usual, 1, 1, r.length).number == USS_REPLIED
+          && equal(room, k3, 16));
 }
 
 /* ---- each answer number, each parameter error */

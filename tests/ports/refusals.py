@@ -100,6 +100,9 @@ HEADERS = [  # what is replaced in uss.h, and by what
     ("two fields of two widths exchanged", "uint32_t number, length;\n    uss_words control;",
      "uss_words control;\n    uint32_t number, length;"),
     ("another struct returned", "uss_built uss_build_mirror(", "uss_words uss_build_mirror("),
+    ("a slice of another width", "const uint16_t *items", "const uint8_t *items"),
+    ("a field of another width", "uint64_t taken;", "uint32_t taken;"),
+    ("a struct as its one number", "uss_receiver uss_pause(uss_receiver receiver);", "uint32_t uss_pause(uint32_t receiver);"),
 ]
 
 MODULES = [  # the same for the module

@@ -4,6 +4,7 @@
 
 static uint8_t table[12 * MOST_RECORDS + 12], page[300], room[300];
 static uint32_t values[MOST_VALUES];
+static uint16_t line[320];
 
 static void put_be(uint8_t *p, uint32_t word)
 {
@@ -89,6 +90,22 @@ static size_t put_telegram(uss_setup s, uint32_t adr, uint32_t head, uint32_t va
     }
     seal(page, at + 1, adr);
     return at + 1;
+}
+
+/* The bytes as items of the line, from a place on. Gives where they end. */
+static size_t put_items(size_t at, const uint8_t *bytes, size_t len)
+{
+    size_t i;
+    for (i = 0; i < len; i++)
+        line[at + i] = bytes[i];
+    return at + len;
+}
+
+static uss_receiver in_state(uint32_t number)
+{
+    uss_receiver r;
+    r.state = number;
+    return r;
 }
 
 static void fill_room(uint32_t byte)

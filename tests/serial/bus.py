@@ -7,7 +7,7 @@ import time
 import tty
 
 from checks import Wrong, same
-from damage import frame_number
+from damage import frame_number, taken
 
 BAUD = 1200         # a slow line: the master waits long for a reply
 DRIVE_SLACK = 5     # ms; a page comes whole
@@ -15,6 +15,8 @@ MASTER_SLACK = 300  # ms; so long may this machine do other things
 QUIET = 0.328       # s that the master finds the line quiet before it sends: 28 ms are three characters
 NEXT = 0.647        # s from a reply to the next task: 319 ms until its end is seen, and QUIET
 LATE = 0.483        # s from a page to what is to come between its end and the next telegram
+UNSAID = 0.2        # s for the drive to see the pause behind bytes of which it says nothing
+IN_TIME = 0.4       # s from a task to a reply behind noise: between 319 ms, when the pause is seen, and 476 ms
 GIVEN_UP = 0.64     # s from a task to what is to come between 476 ms, when it is given up, and 804 ms, when the next is sent
 LIMIT = 60          # s; what takes longer hangs
 TIMES = []          # s from each task to its reply
@@ -33,7 +35,7 @@ def fill(line):
 
 
 def answers_in(text):
-    """What a drive has printed of each page: its bytes, the answer, the answer's text, and the state after it."""
+    """What a drive has printed of each telegram: its bytes, the answer, the answer's text, and the state after it."""
     found = re.findall(r"^(\d+) bytes, answer (\d+), ([^;]*); (.*)\n", text, re.M)
     return [(int(count), int(number), words, state) for count, number, words, state in found]
 
@@ -151,15 +153,19 @@ class Bus:
         return answers_in(self.said["slave"])
 
     def serve(self, page, lots=1):
-        """Gives a page to the drive, in so many lots, and waits until it has said its answer. Returns its reply, or None."""
+        """Gives the drive bytes with a pause behind them, in so many lots, and waits until it has said its answer, or for some time where
+        there is no telegram in them and it is to say nothing. Returns its reply, or None."""
         before = len(self.answers())
         start = time.monotonic()
         self.write_lots("slave", page, lots)
-        self.pump(lambda: len(self.answers()) > before)
+        self.pump(lambda: len(self.answers()) > before, None if taken(page) else UNSAID)
+        said = self.answers()[before:]
+        same(f"what the drive says of {page.hex(' ')}: bytes", [count for count, *_ in said], [len(page)] if taken(page) else [])
+        if not said:
+            return None
         if time.monotonic() - start < self.pause:
             raise Wrong(f"the drive answers after {time.monotonic() - start} s, before the pause of {self.pause} s")
-        count, number, _, _ = self.answers()[before]
-        same("bytes of the page, as the drive counts them", count, len(page))
+        number = said[0][1]
         if frame_number(page):
             same(f"the drive's answer to {page.hex(' ')}", number, frame_number(page))
         return self.telegram("slave") if number < 2 else None

@@ -1,4 +1,4 @@
-"""The telegrams of the examples on a clean line, and what may become of a telegram on the way."""
+"""The telegrams of the examples on a clean line, what may become of a telegram on the way, and what a receiver makes of that."""
 
 # tasks of the master, each with the drive's reply: mirror, read 1082 element 1, change 700, read 700, broadcast
 EXCHANGES = [(bytes.fromhex(task), bytes.fromhex(reply)) for task, reply in (
@@ -24,6 +24,25 @@ def frame_number(page):
     for byte in page:
         check ^= byte
     return 14 if check else 0
+
+
+def handed_out(page):
+    """What the receiver hands out of the bytes between two pauses, by the rule of docs/CALLS.md; None where that is nothing. 02 opens a
+    telegram and any other first byte none; an LGE outside 3 to 254 ends it; it is whole with LGE + 2 bytes, and whatever comes behind it
+    is ignored; with fewer the pause drops it."""
+    if len(page) < 2 or page[0] != 2 or not 3 <= page[1] <= 254 or len(page) < page[1] + 2:
+        return None
+    return page[:page[1] + 2]
+
+
+def taken(page):
+    """What the examples take of it: the telegram with the pause behind it, and no byte before that."""
+    return page if handed_out(page) == page else None
+
+
+def number_of(telegram):
+    """What is said of a telegram that a receiver handed out: 14 or 0; None where it handed out none."""
+    return None if telegram is None else frame_number(telegram)
 
 
 def is_broadcast(telegram):
@@ -84,4 +103,4 @@ KINDS = {
     "LGE reads 254": lying,
     "nothing arrives": swallowed,
 }
-HARMLESS = "noise and a pause in front"  # on the way to the drive: it takes the telegram behind the pause
+HARMLESS = "noise and a pause in front"  # the telegram behind the pause is taken

@@ -6,7 +6,7 @@ import re
 import sys
 
 from checks import Wrong, all_hold, same, text_of
-from damage import EXCHANGES, HARMLESS, KINDS, frame_number
+from damage import EXCHANGES, HARMLESS, KINDS, frame_number, handed_out, number_of, taken
 
 PAGE = text_of("docs/SERIAL.md")
 LINE = text_of("examples/serial_line.h")
@@ -22,10 +22,10 @@ def rows_of(heading):
     return [row for row, after in zip(rows, rows[1:] + [[""]]) if set(row[0]) != {"-"} and set(after[0]) != {"-"}]
 
 
-def numbers_of(kind):
-    """The numbers that the page has for a fault, the usual one first."""
-    answer = next(row[1] for row in rows_of("A fault on the line, and its number") if row[0] == kind)
-    return [int(number) for number in re.findall(r"\b1[0-4]\b", answer)]
+def answers_of(kind, column=2):
+    """What the page has for a fault, the usual first: numbers, and None for nothing; by the last byte (1), or with the pause (2)."""
+    cell = next(row[column] for row in rows_of("A fault on the line, and its number") if row[0] == kind)
+    return [None if answer == "nothing" else int(answer) for answer in re.findall(r"\bnothing\b|\b\d+\b", cell)]
 
 
 def hundredths(bits, baud, delay=0):
@@ -64,16 +64,24 @@ def figures():
 
 
 def faults():
-    """A fault has the numbers of every such damage to every telegram of the examples, the most frequent first."""
+    """A fault has the answers of every such damage to every telegram of the examples, the most frequent first: of what is handed out, and
+    of what the examples take of that. They take nothing where the frame check, of all the bytes, says 10 to 13; and what they take is
+    sound only where nothing was damaged."""
     telegrams = {telegram for exchange in EXCHANGES for telegram in exchange if telegram}
     same("the faults", sorted(row[0] for row in rows_of("A fault on the line, and its number")), sorted(KINDS))
     for kind, damages in KINDS.items():
-        pages = [page for telegram in telegrams for after in damages(telegram) for page in after or [b""]]
-        numbers = [frame_number(page) for page in pages]
-        same(f"whether a sound telegram is left: {kind}", 0 in numbers, kind == HARMLESS)
-        refusals = set(numbers) - {0}
-        same(f"the numbers: {kind}", sorted(numbers_of(kind)), sorted(refusals))
-        same(f"the usual number: {kind}", numbers_of(kind)[0], max(refusals, key=numbers.count))
+        pages = [(telegram, page) for telegram in telegrams for after in damages(telegram) for page in after or [b""]]
+        for column, receive in ((1, handed_out), (2, taken)):
+            found = [number_of(receive(page)) for telegram, page in pages if (kind, page) != (HARMLESS, telegram)]
+            same(f"the answers: {kind}", set(answers_of(kind, column)), set(found))
+            same(f"the usual answer: {kind}", answers_of(kind, column)[0], max(set(found), key=found.count))
+        for telegram, page in pages:
+            same(f"whether {page.hex(' ')} is taken", taken(page) is None, 10 <= frame_number(page) <= 13)
+            same(f"whether {page.hex(' ')} is sound and taken", number_of(taken(page)) == 0, page == telegram)
+    for telegram in telegrams:
+        for place in range(2, len(telegram)):
+            pages = [telegram[:place] + bytes([byte]) + telegram[place:] for byte in range(256)]
+            same(f"bytes that pass at {place} of {telegram.hex(' ')}", [number_of(handed_out(page)) for page in pages].count(0), 1)
     return f"{len(KINDS)} faults"
 
 

@@ -2,6 +2,7 @@
 -- named after crate, function and, for a slice, its parameter; a function for C stands without its crate. `F.Post` is the contract of
 -- F as its source states it. Assumes nothing.
 use mathlib.Core.Path.{_≡_, sym, ap, _∙_}
+use mathlib.Core.List.{[]}
 use denote.Ref.{now}
 use Rattle.opening.specs.Lent.{Memory}
 use Rattle.words.proofs.join.Reads as words-join
@@ -9,6 +10,11 @@ use Rattle.words.proofs.join_double.Reads as words-join-double
 use Rattle.store.proofs.has_room.Reads as store-has-room
 use Rattle.store.proofs.put.Reads as store-put
 use Rattle.bcc.proofs.bcc.Reads as bcc-bcc
+use Rattle.step.proofs.settle.Reads as step-settle
+use Rattle.step.proofs.step.Reads as step-step
+use Rattle.receiver.proofs.receive.Reads as receiver-receive
+use Rattle.receiver.proofs.receive_bytes.Reads as receiver-receive-bytes
+use Rattle.receiver.proofs.pause.Reads as receiver-pause
 use Rattle.frame.proofs.check.Reads as frame-check
 use Rattle.address.proofs.decode.Reads as address-decode
 use Rattle.address.proofs.number_fault.Reads as address-number-fault
@@ -66,6 +72,9 @@ use Rattle.host_reply.proofs.read_reply.Reads as host-reply-read-reply
 use Rattle.text.proofs.count_digits.Reads as text-count-digits
 use Rattle.text.proofs.put_number.Reads as text-put-number
 use Rattle.listing.proofs.list.Reads as listing-list
+use Rattle.uss_c.proofs.uss_receive.Reads as uss-receive
+use Rattle.uss_c.proofs.uss_receive_bytes.Reads as uss-receive-bytes
+use Rattle.uss_c.proofs.uss_pause.Reads as uss-pause
 use Rattle.uss_c.proofs.uss_slave.Reads as uss-slave
 use Rattle.uss_c.proofs.uss_build_task.Reads as uss-build-task
 use Rattle.uss_c.proofs.uss_build_mirror.Reads as uss-build-mirror
@@ -91,6 +100,9 @@ store-has-room-one κs a r r′ s s′ = equal-through
 
 pub bcc-bcc-one : OneResult bcc-bcc.Post
 bcc-bcc-one κs a r r′ s s′ = equal-through
+
+pub step-settle-one : OneResult step-settle.Post
+step-settle-one κs a r r′ s s′ = equal-through
 
 pub frame-check-one : OneResult frame-check.Post
 frame-check-one κs a r r′ s s′ = equal-through
@@ -235,6 +247,28 @@ store-put-one κs a r r′ s s′ p p′ = equal-through (p .0) (p′ .0)
 pub store-put-out : OneExit store-put.Post (λ κs s. now (s .0))
 store-put-out κs a r r′ s s′ p p′ = equal-through (p .1) (p′ .1)
 
+pub step-step-one : OneResult step-step.Post
+step-step-one κs a r r′ s s′ p p′ = equal-through (p .0) (p′ .0)
+
+pub step-step-page : OneExit step-step.Post (λ κs s. now (s .1 .1 .0))
+step-step-page κs a r r′ s s′ p p′ = equal-through (p .1) (p′ .1)
+
+pub receiver-receive-one : OneResult receiver-receive.Post
+receiver-receive-one κs a r r′ s s′ p p′ = equal-through (p .answers) (p′ .answers)
+
+pub receiver-receive-page : OneExit receiver-receive.Post (λ κs s. now (s .1 .1 .0))
+receiver-receive-page κs a r r′ s s′ p p′ = equal-through (p .page-is) (p′ .page-is)
+
+pub receiver-receive-bytes-one : OneResult receiver-receive-bytes.Post
+receiver-receive-bytes-one κs a r r′ s s′ p p′ = equal-through (p .answers) (p′ .answers)
+
+pub receiver-receive-bytes-page : OneExit receiver-receive-bytes.Post (λ κs s. now (s .1 .1 .0))
+receiver-receive-bytes-page κs a r r′ s s′ p p′ = equal-through (p .page-is) (p′ .page-is)
+
+-- what is promised for every page is promised for the empty one
+pub receiver-pause-one : OneResult receiver-pause.Post
+receiver-pause-one κs a r r′ s s′ p p′ = equal-through (p .0 []) (p′ .0 [])
+
 pub net-seal-one : OneResult net-seal.Post
 net-seal-one κs a r r′ s s′ p p′ = equal-through (p .0) (p′ .0)
 
@@ -314,6 +348,21 @@ pub listing-list-out : OneExit listing-list.Post (λ κs s. now (s .1 .0))
 listing-list-out κs a r r′ s s′ p p′ = equal-through (p .1) (p′ .1)
 
 -- ---- the calls for C
+
+pub uss-receive-one : OneResult uss-receive.Post
+uss-receive-one κs a r r′ s s′ p p′ = equal-through (p .answers) (p′ .answers)
+
+pub uss-receive-page : OneExit uss-receive.Post (λ κs s. now (s .1 .1 .0))
+uss-receive-page κs a r r′ s s′ p p′ = equal-through (p .page-is) (p′ .page-is)
+
+pub uss-receive-bytes-one : OneResult uss-receive-bytes.Post
+uss-receive-bytes-one κs a r r′ s s′ p p′ = equal-through (p .answers) (p′ .answers)
+
+pub uss-receive-bytes-page : OneExit uss-receive-bytes.Post (λ κs s. now (s .1 .1 .0))
+uss-receive-bytes-page κs a r r′ s s′ p p′ = equal-through (p .page-is) (p′ .page-is)
+
+pub uss-pause-one : OneResult uss-pause.Post
+uss-pause-one κs a r r′ s s′ p p′ = equal-through (p .0 []) (p′ .0 [])
 
 pub uss-slave-one : OneResult uss-slave.Post
 uss-slave-one κs a r r′ s s′ p p′ = equal-through (p .answers) (p′ .answers)

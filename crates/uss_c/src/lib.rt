@@ -1,8 +1,10 @@
 // The calls for C (include/uss.h): structs by value, slices as pointer and count. Each hands on to the crate that does the work and
 // promises what that one promises.
 ghost use mathlib.Core.Path.{_≡_};
-ghost use mathlib.Core.List.{[]};
+ghost use mathlib.Core.List.{List, [], _∷_};
+ghost use Prim.Native.Nat.{ℕ};
 ghost use Rattle.bcc.specs.Bcc.{xorAll};
+ghost use Rattle.receiver.specs.Receive.{receivedOf, Leaves};
 ghost use Rattle.request.specs.declared.Request.the-variants.{Task, Mirror, Broadcast};
 ghost use Rattle.slave.specs.Slave.{callOf};
 ghost use Rattle.master.specs.Build.{builtOf};
@@ -15,9 +17,33 @@ ghost use Rattle.host_reply.specs.Host.{hostReply};
 use host_master::HostBuilt;
 use host_reply::HostReply;
 use host_slave::HostAnswer;
+use receiver::Received;
+use receiver::Receiver;
 use setup::Setup;
 use table_check::TableCheck;
 use words::Words;
+
+#[no_mangle]
+pub extern "C" fn uss_receive(receiver: Receiver, items: &[u16], page: &mut [u8]) -> Received
+    ensures { λ r. ⌜ Leaves (receivedOf (receiver .state) (now (items .entry)) (now (page .entry))) r (now (page .exit)) ⌝ }
+{
+    receiver::receive(receiver, items, page)
+}
+
+#[no_mangle]
+pub extern "C" fn uss_receive_bytes(receiver: Receiver, bytes: &[u8], page: &mut [u8]) -> Received
+    ensures { λ r. ⌜ Leaves (receivedOf (receiver .state) (now (bytes .entry)) (now (page .entry))) r (now (page .exit)) ⌝ }
+{
+    receiver::receive_bytes(receiver, bytes, page)
+}
+
+#[no_mangle]
+pub extern "C" fn uss_pause(receiver: Receiver) -> Receiver
+    ensures { λ r. ⌜ ((page : List ℕ) → r ≡ receivedOf (receiver .state) (256 ∷ []) page .received .receiver) ⌝ }
+    ensures { λ _. ⌜ ((page : List ℕ) → receivedOf (receiver .state) (256 ∷ []) page .page ≡ page) ⌝ }
+{
+    receiver::pause(receiver)
+}
 
 #[no_mangle]
 pub extern "C" fn uss_slave(

@@ -1,0 +1,2 @@
+-- Laws of the receiver.
+pub mod RunLaws

@@ -1,0 +1,2 @@
+-- The calls of the receiver.
+pub mod Receive

@@ -1,0 +1,2 @@
+-- Laws of one item.
+pub mod StepLaws

@@ -1,0 +1,2 @@
+-- One item of the receiver.
+pub mod Step
