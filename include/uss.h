@@ -30,8 +30,8 @@ extern "C" {
  * step of each number means. */
 #define USS_VERSION_MAJOR 0
 #define USS_VERSION_MINOR 2
-#define USS_VERSION_PATCH 0
-#define USS_VERSION "0.2.0"
+#define USS_VERSION_PATCH 1
+#define USS_VERSION "0.2.1"
 
 /* A buffer for a reply or a built telegram has at least this many bytes, however short the telegram is. A receiver's page of so many
  * takes every telegram. */

@@ -3,9 +3,6 @@
 #
 # The texts of numbers and errors are those of include/uss_text.h. The rules are document 01's: Frame, Parameter area, Slave.
 
-# the page of each nibble, bits 15 to 12 of IND, whose weights are 1, 8, 4, 2
-pages=(0 2 4 6 8 10 12 14 1 3 5 7 9 11 13 15)
-
 # what an ID asks as a task, and what it says as a reply
 tasks=('no task' 'read' 'change word' 'change double' 'no such task' 'no such task' 'read element' 'change element, word'
     'change element, double' 'number of elements' 'no such task' 'change element, double, and save'
@@ -98,16 +95,17 @@ signed() {
 
 # parameter_area PKW: PKE, IND and PWE of an area of that many words
 parameter_area() {
-    local pke ind id base nibble value number rest=''
+    local pke ind id base nibble page value number rest=''
     pke="$(word 0)" ind="$(word 1)" value="$(word $(($1 - 1)))"
     id=$((pke >> 12)) base=$((pke & 2047)) nibble=$((ind >> 12))
-    number="parameter $((2000 * pages[nibble] + base))"
+    page=$((nibble % 8 * 2 + nibble / 8)) # bits 15 to 12 of IND, whose weights are 1, 8, 4, 2
+    number="parameter $((2000 * page + base))"
     [ "$base" -lt 2000 ] || number='no parameter, since the base is over 1999'
     [ $((pke & 2048)) = 0 ] || rest='; bit 11 is set, which no reply has'
     echo "  PKE $(hex_words 0 1): ID $id, as a task \"${tasks[id]}\", as a reply \"${replies[id]}\"; base $base$rest"
     rest=''
     [ $((ind & 3840)) = 0 ] || rest='; bits 11 to 8 are not all 0, which no reply has'
-    echo "  IND $(hex_words 1 1): page nibble $nibble is page ${pages[nibble]}, index $((ind & 255)): $number$rest"
+    echo "  IND $(hex_words 1 1): page nibble $nibble is page $page, index $((ind & 255)): $number$rest"
     rest="word $(signed "$value" 16)"
     [ "$1" = 3 ] || rest="$rest, double $(signed $(($(word 2) * 65536 + value)) 32)"
     [ "$id" != 7 ] || rest="$rest; as a reply error $value, $(text error "$value")"

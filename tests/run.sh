@@ -37,6 +37,16 @@ closed() {
     [ -z "$undefined$kept$entered" ]
 }
 
+# it keeps neither the sixteen pages nor the sixteen nibbles as a list (document 02, W-202)
+listless() {
+    local kept list
+    kept="$(od -An -v -tx1 "$archive" | tr -d ' \n')"
+    [ -n "$kept" ] || return 1
+    for list in 00020406080a0c0e01030507090b0d0f 00080109020a030b040c050d060e070f; do
+        [[ "$kept" != *"$list"* ]] || { echo "the archive has the list $list"; return 1; }
+    done
+}
+
 c_test() {
     gcc -std=c99 "${strict[@]}" -o "$out/calls" tests/c/calls.c "$archive" && "$out/calls"
 }
@@ -120,6 +130,7 @@ else
 fi
 try 'the archive offers what the header declares' symbols
 try 'the archive has no state and no system call, and needs nothing from outside' closed
+try 'the archive keeps no list of pages or nibbles' listless
 try 'C test' c_test
 try 'header under C++' header_in_cpp
 try 'tables by the macros' table_macros

@@ -21,7 +21,7 @@ Module = namedtuple("Module", "functions tail")
 
 
 def needed(root):
-    """The crates that the library stands on, itself last: what crates.txt says."""
+    """The crates that the library stands on, straight or through others, and itself: what crates.txt says."""
     depends = {}
     with open(os.path.join(root, "crates.txt")) as file:
         for line in file:
@@ -30,7 +30,13 @@ def needed(root):
                 depends[name.strip()] = rest.split()
     if LIBRARY not in depends:
         raise Refused(f"crates.txt does not list {LIBRARY}")
-    return [name for name in depends[LIBRARY] if name in depends] + [LIBRARY]
+    found, left = [], [LIBRARY]
+    while left:
+        name = left.pop()
+        if name in depends and name not in found:
+            found.append(name)
+            left += depends[name]
+    return found
 
 
 def stamp(root, kit):

@@ -1,5 +1,5 @@
 """What ports/build must refuse: bad input with one line and exit status 2, nothing written; a header, a source and a module that it
-does not understand or that do not agree; a layout that is not the module's."""
+does not understand or that do not agree; a layout that is not the module's; and a module of older sources of any crate in it."""
 import os
 import re
 import shutil
@@ -175,7 +175,11 @@ def main():
         failed |= bool(bad)
         print(f"FAILED: ports/build must refuse: {'; '.join(bad)}" if bad
               else f"passed: ports/build refuses {len(cases)} of {len(cases)} {group}")
-    return failed
+    crates = {name.partition("::")[0] for name, function in proved.functions.items() if function.inner}
+    unseen = sorted(crates - set(module.needed(ROOT)))
+    print(f"FAILED: ports/build keeps an old module where these change: {' '.join(unseen)}" if unseen
+          else f"passed: ports/build makes a new module where one of its {len(crates)} crates changes")
+    return failed or bool(unseen)
 
 
 if __name__ == "__main__":
