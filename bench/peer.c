@@ -386,7 +386,7 @@ wrong:
 #define DOUBLE_CHANGES (1u << 3 | 1u << 13 | 1u << 8 | 1u << 11)
 #define CHANGES (WORD_CHANGES | DOUBLE_CHANGES)
 #define TASKS (READS | CHANGES)
-#define BY_INDEX (1u << 6 | 1u << 7 | 1u << 12 | 1u << 8 | 1u << 11)
+#define ELEMENT_TASKS (1u << 6 | 1u << 7 | 1u << 12 | 1u << 8 | 1u << 11) /* their replies have an element's ID */
 
 /* The record of a good table with the number that PKE and IND name, or `end`. */
 static const uint8_t *find(uint32_t pke_ind, const uint8_t *table, size_t records, const uint8_t *end)
@@ -433,23 +433,20 @@ static struct said perform(const uint8_t *p, uint32_t pkw, const uint8_t *record
 {
     uint32_t pke_ind = get32(p), task = pke_ind >> 28, index = pke_ind & 0xFF;
     uint32_t head = get32(record), elements = elements_of(head), is_double = head >> 16 & 1, value;
-    uint32_t id = USS_ID_WORD + is_double;
+    uint32_t id = (IN(ELEMENT_TASKS, task) ? USS_ID_ELEMENT_WORD : USS_ID_WORD) + is_double;
 
     if (!IN(TASKS, task))
         return say(USS_ID_ERROR, pke_ind, USS_NO_SUCH_TASK);
-    if (IN(BY_INDEX, task)) {
-        if (elements == 0) {
-            if (index > 1)
-                return say(USS_ID_ERROR, pke_ind, USS_NO_ARRAY);
-        } else {
-            if (index >= elements)
-                return say(USS_ID_ERROR, pke_ind, USS_NO_ELEMENT);
-            place += index;
-        }
-        id = USS_ID_ELEMENT_WORD + is_double;
-    }
     if (task == USS_COUNT_ELEMENTS)
         return say(USS_ID_ELEMENTS, pke_ind, places_of(head));
+    if (elements == 0) { /* the index counts in every task but 9: document 02, W-203 */
+        if (index > 1)
+            return say(USS_ID_ERROR, pke_ind, USS_NO_ARRAY);
+    } else {
+        if (index >= elements)
+            return say(USS_ID_ERROR, pke_ind, USS_NO_ELEMENT);
+        place += index;
+    }
     if (!IN(CHANGES, task)) {
         if (is_double && pkw == 3)
             return say(USS_ID_ERROR, pke_ind, USS_NEEDS_FOUR);

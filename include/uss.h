@@ -29,9 +29,9 @@ extern "C" {
 /* The version of this header and of the archive that comes with it; the text says the three numbers. CHANGELOG.md says what a
  * step of each number means. */
 #define USS_VERSION_MAJOR 0
-#define USS_VERSION_MINOR 2
-#define USS_VERSION_PATCH 1
-#define USS_VERSION "0.2.1"
+#define USS_VERSION_MINOR 3
+#define USS_VERSION_PATCH 0
+#define USS_VERSION "0.3.0"
 
 /* A buffer for a reply or a built telegram has at least this many bytes, however short the telegram is. A receiver's page of so many
  * takes every telegram. */
@@ -102,7 +102,7 @@ enum uss_rule {
     USS_RULE_OUTSIDE_LIMITS = 11  /* a value outside its record's limits */
 };
 
-/* ---- task IDs; docs/PROTOCOL.md, Tasks, has what each does */
+/* ---- task IDs; docs/PROTOCOL.md, Tasks, has what each does. The index counts in all but 0 and 9. */
 
 enum uss_task {
     USS_TASK_NONE = 0,
@@ -306,7 +306,8 @@ uss_table_check uss_check_table(const uint8_t *table, size_t table_len, const ui
  * setup      node of the drive that is spoken to, and the words of the two areas, as the drive has them.
  * task       what is asked: one of enum uss_task.
  * parameter  the parameter's number.
- * index      the element of an array, counted from 0.
+ * index      the element of an array, counted from 0, in every read and change, tasks 1, 2, 3, 13 and 14 too; without array 0 and 1
+ *            both name its one value. Task 9 ignores it, and task 0 has 0.
  * value      the new value of a change, as bits: a signed word's -100 is 0xFF9C. 0 where nothing is changed.
  * process    the process words; those past PZD are 0.
  * out        the buffer for the telegram, USS_BUFFER bytes or more.

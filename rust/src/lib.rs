@@ -182,7 +182,8 @@ pub struct Request {
     pub task: Task,
     /// The parameter's number, at most 31999.
     pub parameter: u16,
-    /// The element of an array, counted from 0, at most 254.
+    /// The element of an array, counted from 0, at most 254: in every read and change. Without array 0 and 1 both name the one value;
+    /// `CountElements` ignores it.
     pub index: u8,
     /// The new value of a change, as bits; else 0.
     pub value: u32,

@@ -34,12 +34,15 @@ fn each_task_comes_back_as_its_content() {
     assert_eq!(round(Task::Read, 701, 0, 0, &mut values), Content::Double(6));
     assert_eq!(round(Task::ReadElement, 700, 1, 0, &mut values), Content::ElementWord(5));
     assert_eq!(round(Task::ReadElement, 701, 1, 0, &mut values), Content::ElementDouble(7));
-    assert_eq!(round(Task::CountElements, 701, 0, 0, &mut values), Content::Elements(2));
+    assert_eq!(round(Task::Read, 701, 1, 0, &mut values), Content::Double(7));
+    assert_eq!(round(Task::CountElements, 701, 254, 0, &mut values), Content::Elements(2));
     assert_eq!(values, [5, 6, 7]);
     let word = -100i16 as u16;
     assert_eq!(round(Task::ChangeWord, 700, 0, word.into(), &mut values), Content::Word(word));
     assert_eq!(round(Task::SaveElementDouble, 701, 1, u32::MAX, &mut values), Content::ElementDouble(u32::MAX));
     assert_eq!(values, [word.into(), 6, u32::MAX]);
+    assert_eq!(round(Task::SaveDouble, 701, 1, 8, &mut values), Content::Double(8));
+    assert_eq!(values, [word.into(), 6, 8]);
 }
 
 #[test]
@@ -49,6 +52,8 @@ fn each_error_comes_back_as_its_case() {
         (Task::Read, 699, 0, 0, ParameterError::NoParameter),
         (Task::ReadElement, 701, 2, 0, ParameterError::NoElement),
         (Task::ReadElement, 700, 2, 0, ParameterError::NoArray),
+        (Task::ChangeDouble, 701, 2, 0, ParameterError::NoElement),
+        (Task::Read, 700, 2, 0, ParameterError::NoArray),
         (Task::ChangeWord, 701, 0, 0, ParameterError::OtherWidth),
         (Task::ChangeWord, 700, 0, 101, ParameterError::OutsideLimits),
     ];

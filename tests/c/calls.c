@@ -113,6 +113,50 @@ static void known_telegrams(void)
     puts("known telegrams");
 }
 
+/* The index in plain tasks, beside tasks 6 and 9: built, served and read. */
+static void indexes(void)
+{
+    static const uint8_t table[] = {USS_WORD(700, USS_WRITABLE, 2, 0, 65535), USS_WORD(701, USS_WRITABLE, 0, 0, 65535),
+                                    USS_DOUBLE(702, USS_WRITABLE, 2, 0, 0xFFFFFFFFu)};
+    /* the reply's ID and value; the place that is changed, 5 for none */
+    static const struct {
+        uint16_t parameter;
+        uint8_t task, index;
+        uint32_t id, value, place;
+    } cases[] = {
+        {700, 1, 1, USS_ID_WORD, 11, 5}, {700, 1, 2, USS_ID_ERROR, USS_NO_ELEMENT, 5},
+        {700, 6, 1, USS_ID_ELEMENT_WORD, 11, 5}, {700, 6, 2, USS_ID_ERROR, USS_NO_ELEMENT, 5},
+        {700, 2, 1, USS_ID_WORD, 99, 1}, {700, 2, 2, USS_ID_ERROR, USS_NO_ELEMENT, 5},
+        {700, 14, 1, USS_ID_WORD, 99, 1}, {700, 14, 2, USS_ID_ERROR, USS_NO_ELEMENT, 5},
+        {700, 9, 254, USS_ID_ELEMENTS, 2, 5},
+        {701, 1, 1, USS_ID_WORD, 12, 5}, {701, 1, 2, USS_ID_ERROR, USS_NO_ARRAY, 5},
+        {701, 2, 1, USS_ID_WORD, 99, 2}, {701, 2, 2, USS_ID_ERROR, USS_NO_ARRAY, 5},
+        {701, 14, 1, USS_ID_WORD, 99, 2}, {701, 14, 254, USS_ID_ERROR, USS_NO_ARRAY, 5},
+        {702, 1, 0, USS_ID_DOUBLE, 13, 5}, {702, 1, 1, USS_ID_DOUBLE, 14, 5},
+        {702, 3, 1, USS_ID_DOUBLE, 99, 4}, {702, 3, 2, USS_ID_ERROR, USS_NO_ELEMENT, 5},
+        {702, 13, 1, USS_ID_DOUBLE, 99, 4}, {702, 13, 2, USS_ID_ERROR, USS_NO_ELEMENT, 5},
+    };
+    uint8_t *out = at_the_end(256), *reply = at_the_end(256);
+    size_t i, k;
+
+    for (i = 0; i < sizeof cases / sizeof cases[0]; i++) {
+        uint16_t parameter = cases[i].parameter;
+        uint8_t task = cases[i].task, index = cases[i].index;
+        uint32_t values[5] = {10, 11, 12, 13, 14}, value = task == 1 || task == 6 || task == 9 ? 0 : 99;
+        uss_built b = uss_build_task(setup, task, parameter, index, value, command, out, 256);
+        uss_answer a = uss_slave(setup, table, sizeof table, values, 5, held, status, out, b.length, reply, 256);
+        uss_reply r = uss_read_reply(setup, task, parameter, index, value, command, reply, a.length);
+        int good = b.number == USS_DONE && a.number == USS_REPLIED && r.number == USS_DONE && r.id == cases[i].id
+                   && r.value == cases[i].value;
+        char what[60];
+        for (k = 0; k < 5; k++)
+            good &= values[k] == (k == cases[i].place ? 99 : 10 + k);
+        snprintf(what, sizeof what, "task %u of parameter %u, index %u", (unsigned)task, (unsigned)parameter, (unsigned)index);
+        expect(good, what);
+    }
+    puts("indexes");
+}
+
 static void short_buffers(void)
 {
     uint8_t *small = at_the_end(255), *text = at_the_end(64);
@@ -471,6 +515,7 @@ int main(void)
 {
     layouts();
     known_telegrams();
+    indexes();
     short_buffers();
     lying_lengths();
     empty_slices();

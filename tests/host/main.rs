@@ -718,10 +718,17 @@ impl Bench {
         drive.control = want.control;
         self.counts.met("slave answer", want.number);
         if want.number == 0 && drive.setup.pkw != 0 {
-            self.counts.met("task in a reply", (received[3] >> 4) as u32);
+            let (task, index) = ((received[3] >> 4) as u32, received[6]);
+            self.counts.met("task in a reply", task);
             self.counts.met("reply ID", (want.reply[3] >> 4) as u32);
             if let Some(error) = want.error {
                 self.counts.met("parameter error", error);
+            }
+            match want.error {
+                Some(3) => self.counts.met("error 3 by task", task),
+                Some(4) => self.counts.met("error 4 by task", task),
+                None if index > 1 => self.counts.met("index by task", task),
+                _ => {}
             }
             if before != drive.values {
                 self.counts.met("values changed", 1);
@@ -1141,6 +1148,11 @@ fn main() {
     good &= c.report("task in a reply", &(0..16).collect::<Vec<u32>>(), floor);
     good &= c.report("reply ID", &[0, 1, 2, 4, 5, 6, 7], floor);
     good &= c.report("parameter error", &[0, 1, 2, 3, 4, 5, 102, 106], floor);
+    // the index counts in every read and change, and in these alone: no error 3 or 4 in task 9, which runs at any index, as task 0 does
+    let indexed = [1, 2, 3, 6, 7, 8, 11, 12, 13, 14];
+    good &= c.report("error 3 by task", &indexed, floor);
+    good &= c.report("error 4 by task", &indexed, floor);
+    good &= c.report("index by task", &[&indexed[..], &[0, 9]].concat(), floor);
     good &= c.report("values changed", &[1], floor);
     good &= c.report("build task", &[0, 30, 31, 32], floor);
     good &= c.report("build mirror", &[0, 30, 31, 32], floor);

@@ -219,7 +219,7 @@ enum Act {
     None,
 }
 
-/// Act, and whether the index names an element.
+/// Act, and whether the reply has an element's ID, 4 or 5.
 fn act(task: u16) -> (Act, bool) {
     match task {
         1 => (Act::Read, false),
@@ -275,7 +275,8 @@ fn perform(area: &[u16], records: &[Record], values: &mut [u32]) -> (Vec<u16>, O
         first += r.places();
     }
     let Some(r) = named else { return fail(0) };
-    let (act, by_index) = act(task);
+    let (act, element_id) = act(task);
+    let by_index = act != Act::Count; // in plain tasks too: document 02, W-203
     let change = act == Act::Word || act == Act::Double;
     if act == Act::None {
         return fail(106);
@@ -310,7 +311,7 @@ fn perform(area: &[u16], records: &[Record], values: &mut [u32]) -> (Vec<u16>, O
     if change {
         values[place] = value;
     }
-    let id = if by_index { 4 } else { 1 } + r.double as u16;
+    let id = if element_id { 4 } else { 1 } + r.double as u16;
     (reply(id, r.double, values[place]), None)
 }
 

@@ -103,6 +103,7 @@ int driver(void)
     known_numbers();
     known_broadcasts();
     known_values();
+    known_indexes();
     known_rules();
     known_lines();
     answer_numbers();

@@ -1,4 +1,5 @@
-/* A part of driver.c: the known telegrams of document 01, lines for the receiver, each answer number, each parameter error. */
+/* A part of driver.c: the known telegrams of document 01, the index in plain tasks, lines for the receiver, each answer number, each
+ * parameter error. */
 
 /* ---- known telegrams: K1 to K12 of document 01 */
 
@@ -183,6 +184,32 @@ static void known_values(void)
     holds &= serve(usual, 1, 2, 256).number == USS_LGE;
     page[1] = 255;
     check("LGE 2, 254, 255", holds && serve(usual, 1, 2, 256).number == USS_LGE);
+}
+
+/* The index in plain tasks (document 02, W-203): the last element and one past it, and without array indices 1 and 2. */
+static void known_indexes(void)
+{
+    static const uint8_t tasks[5] = {USS_READ, USS_CHANGE_WORD, 14, USS_CHANGE_DOUBLE, 13};
+    size_t i;
+    int holds = 1;
+
+    for (i = 0; i < 5; i++) {
+        uint32_t kind = i < 3 ? 0 : DOUBLE, id = i < 3 ? USS_ID_WORD : USS_ID_DOUBLE, found = i == 0 ? 6000 : 7000;
+        put_record(0, 1082, kind, WRITABLE, 2, 0, 65000);
+        values[0] = 5000;
+        values[1] = 6000;
+        run_task(usual, tasks[i], 1082, 2, 7000, 1, 2);
+        holds &= replied(USS_ID_ERROR, USS_NO_ELEMENT) && values[0] == 5000 && values[1] == 6000;
+        run_task(usual, tasks[i], 1082, 1, 7000, 1, 2);
+        holds &= replied(id, found) && values[0] == 5000 && values[1] == found;
+        put_record(0, 1082, kind, WRITABLE, 0, 0, 65000);
+        values[0] = 6000;
+        run_task(usual, tasks[i], 1082, 2, 7000, 1, 1);
+        holds &= replied(USS_ID_ERROR, USS_NO_ARRAY) && values[0] == 6000;
+        run_task(usual, tasks[i], 1082, 1, 7000, 1, 1);
+        holds &= replied(id, found) && values[0] == found;
+    }
+    check("the index in plain tasks", holds);
 }
 
 /* ---- lines for the receiver */

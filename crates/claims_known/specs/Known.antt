@@ -2,6 +2,7 @@
 -- document says. Slave and master have four parameter words in all of them.
 --     known        the list, K1 to K12 in order; k1-first to k12 are its cases, each under its K number
 --     printed, k8-paged     beside the list: 000's example of an XOR, and the other half of K8
+--     indexed               beside the list: plain tasks by index (document 02, W-203)
 use Prim.Native.Nat.{ℕ, _/_, _%_}
 use mathlib.Core.List.{List, [], _∷_}
 use lib.ListN.{replicate, take}
@@ -154,9 +155,51 @@ k12-pair-runs = (perform pairTable (11 ∷ 12 ∷ []) (area 0x6001 0x0001 0), 4 
 abbrev pub k12-pair-over : Case
 k12-pair-over = (perform pairTable (11 ∷ 12 ∷ []) (area 0x6001 0x0002 0), 7 ∷ 3 ∷ 11 ∷ 12 ∷ [])
 
--- ---- all of them
+-- ---- K1 to K12 in one list
 
 abbrev pub known : List Case
 known =
     k1-first ∷ k1-second ∷ k2 ∷ k3 ∷ k4 ∷ k5 ∷ k6 ∷ k7 ∷ k8 ∷ k9 ∷ k10 ∷ k11-taken ∷ k11-outside
     ∷ k12-plain-runs ∷ k12-plain-over ∷ k12-pair-runs ∷ k12-pair-over ∷ []
+
+-- ---- the index in plain tasks (document 02, W-203): what K12 says of task 6, said of tasks 1, 2, 3, 13 and 14
+
+-- number 1, words or doubles that can be written; `low` is the byte with the lower bits of the element count: 00 no array, 80 two elements
+abbrev pub wordRecord : ℕ → List ℕ
+wordRecord low = 0x00 ∷ 0x02 ∷ 0x40 ∷ low ∷ 0x00 ∷ 0x00 ∷ 0x00 ∷ 0x00 ∷ 0x00 ∷ 0x00 ∷ 0xFF ∷ 0xFF ∷ []
+
+abbrev pub doubleRecord : ℕ → List ℕ
+doubleRecord low = 0x00 ∷ 0x03 ∷ 0x40 ∷ low ∷ 0x00 ∷ 0x00 ∷ 0x00 ∷ 0x00 ∷ 0xFF ∷ 0xFF ∷ 0xFF ∷ 0xFF ∷ []
+
+-- a task with the value 13, without an array and with two elements, at index 1 and at index 2
+abbrev pub asK12 : (ℕ → List ℕ) → ℕ → List (List ℕ)
+asK12 table pke =
+    perform (table 0x00) (11 ∷ []) (area pke 0x0001 13)
+    ∷ perform (table 0x00) (11 ∷ []) (area pke 0x0002 13)
+    ∷ perform (table 0x80) (11 ∷ 12 ∷ []) (area pke 0x0001 13)
+    ∷ perform (table 0x80) (11 ∷ 12 ∷ []) (area pke 0x0002 13)
+    ∷ []
+
+-- a read with reply ID id: runs, error 4, element 1, error 3
+abbrev pub reads : ℕ → List (List ℕ)
+reads id = (id ∷ 11 ∷ 11 ∷ []) ∷ (7 ∷ 4 ∷ 11 ∷ []) ∷ (id ∷ 12 ∷ 11 ∷ 12 ∷ []) ∷ (7 ∷ 3 ∷ 11 ∷ 12 ∷ []) ∷ []
+
+-- a change
+abbrev pub changes : ℕ → List (List ℕ)
+changes id = (id ∷ 13 ∷ 13 ∷ []) ∷ (7 ∷ 4 ∷ 11 ∷ []) ∷ (id ∷ 13 ∷ 11 ∷ 13 ∷ []) ∷ (7 ∷ 3 ∷ 11 ∷ 12 ∷ []) ∷ []
+
+-- what the definitions give, and what is awaited, of several tasks
+abbrev pub Cases : Type 0
+Cases = List (List ℕ) × List (List ℕ)
+
+-- task 9, the last, ignores the index
+abbrev pub indexed : List Cases
+indexed =
+    (asK12 wordRecord 0x1001, reads 1)
+    ∷ (asK12 doubleRecord 0x1001, reads 2)
+    ∷ (asK12 wordRecord 0x2001, changes 1)
+    ∷ (asK12 wordRecord 0xE001, changes 1)
+    ∷ (asK12 doubleRecord 0x3001, changes 2)
+    ∷ (asK12 doubleRecord 0xD001, changes 2)
+    ∷ (perform (wordRecord 0x80) (11 ∷ 12 ∷ []) (area 0x9001 0x00FF 0) ∷ [], (6 ∷ 2 ∷ 11 ∷ 12 ∷ []) ∷ [])
+    ∷ []

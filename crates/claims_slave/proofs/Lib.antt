@@ -5,6 +5,7 @@ pub mod WhenAnswered
 pub mod Replied
 pub mod SendLaws
 pub mod ReplyArea
+pub mod PlainTasks
 pub mod AnswerLines
 pub mod AnswerTable
 pub mod Sequences

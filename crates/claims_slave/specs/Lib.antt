@@ -2,4 +2,5 @@
 pub mod Outcomes
 pub mod AnswerTable
 pub mod ReplyArea
+pub mod PlainTasks
 pub mod Sequence

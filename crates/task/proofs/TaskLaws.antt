@@ -2,17 +2,17 @@
 use mathlib.Core.Path.{_≡_, refl, ap}
 use mathlib.Core.Bool.{Bool, true, false}
 use mathlib.Core.Logic.{_⊎_, inl, inr}
-use Prim.Native.Nat.{ℕ, _≤_, _<_}
+use mathlib.Core.List.{List, [], _∷_}
+use Prim.Native.Nat.{ℕ, zero, suc, _≤_, _<_}
 use native.Mathlib.Nat.{eq-or-lt-of-le}
-use native.Mathlib.Decide.{decLt}
-use native.Mathlib.Omega.{arith}
 use lib.Dec.{lit≤}
-use lib.ListN.{List·getD-eq-default}
-use Rattle.rows.proofs.RangeLaws.{between}
+use lib.ListN.{getD, List·getD-eq-default}
+use Rattle.rows.specs.Rows.{Each}
 use Rattle.task.specs.declared.Act.{Act}
 use Rattle.task.specs.declared.Act.the-variants.{Nothing, Read, Change, Count, Refuse}
 use Rattle.task.specs.declared.Width.{Width}
 use Rattle.task.specs.declared.Width.the-variants.{Either, Word, Double}
+use Rattle.task.specs.declared.Task.{Task}
 use Rattle.task.specs.Task.{refusedRow, tasks, taskOf, readReply, isDoubleId}
 
 -- 15, and the numbers that are no task ID
@@ -24,17 +24,22 @@ refused-on id h = go (eq-or-lt-of-le h)
     go (inl e) = rw (← e)
     go (inr l) = List·getD-eq-default tasks refusedRow l
 
+-- what holds of each row, and of that of the IDs that are refused, holds of what every ID asks
+each-at : (P : Task → Type 0) (other : Task) → P other → (rows : List Task) → Each P rows → (i : ℕ) → P (getD rows i other)
+each-at P other o [] h i = o
+each-at P other o (row ∷ rows) h zero = h .0
+each-at P other o (row ∷ rows) h (suc i) = each-at P other o rows (h .1) i
+
+pub each-task : (P : Task → Type 0) → P refusedRow → Each P tasks → (id : ℕ) → P (taskOf id)
+unfolding taskOf
+each-task P o h id = each-at P refusedRow o tasks h id
+
 -- reply IDs are at most 7
 pub reply-small : (id : ℕ) → taskOf id .reply ≤ 7
-unfolding taskOf tasks
-reply-small id = go (decLt id 16)
-  where
-    go : Dec (id < 16) → taskOf id .reply ≤ 7
-    go (yes h) =
-        between (λ k. taskOf k .reply ≤ 7) 16 0
-        (lit≤ tt, (lit≤ tt, (lit≤ tt, (lit≤ tt, (lit≤ tt, (lit≤ tt, (lit≤ tt, (lit≤ tt, (lit≤ tt, (lit≤ tt, (lit≤ tt, (lit≤ tt, (lit≤ tt, (lit≤ tt, (lit≤ tt, (lit≤ tt, tt))))))))))))))))
-        id (omega arith) h
-    go (no h) = rw (refused-on id (omega arith)) (lit≤ tt)
+unfolding tasks
+reply-small =
+    each-task (λ k. k .reply ≤ 7) (lit≤ tt)
+    (lit≤ tt, (lit≤ tt, (lit≤ tt, (lit≤ tt, (lit≤ tt, (lit≤ tt, (lit≤ tt, (lit≤ tt, (lit≤ tt, (lit≤ tt, (lit≤ tt, (lit≤ tt, (lit≤ tt, (lit≤ tt, (lit≤ tt, (lit≤ tt, tt))))))))))))))))
 
 -- ---- the reply IDs of the table, by act and width
 
@@ -53,15 +58,10 @@ RowOf Count width reply = reply ≡ 6
 RowOf Refuse width reply = reply ≡ 7
 
 pub task-row : (id : ℕ) → RowOf (taskOf id .act) (taskOf id .width) (taskOf id .reply)
-unfolding taskOf tasks
-task-row id = go (decLt id 15)
-  where
-    go : Dec (id < 15) → RowOf (taskOf id .act) (taskOf id .width) (taskOf id .reply)
-    go (yes h) =
-        between (λ k. RowOf (taskOf k .act) (taskOf k .width) (taskOf k .reply)) 15 0
-        (refl, (inl refl, (inl refl, (inl refl, (refl, (refl, (inr refl, (inr refl, (inr refl, (refl, (refl, (inr refl, (inr refl, (inl refl, (inl refl, tt)))))))))))))))
-        id (omega arith) h
-    go (no h) = rw (refused-on id (omega arith)) refl
+unfolding tasks
+task-row =
+    each-task (λ k. RowOf (k .act) (k .width) (k .reply)) refl
+    (refl, (inl refl, (inl refl, (inl refl, (refl, (refl, (inr refl, (inr refl, (inr refl, (refl, (refl, (inr refl, (inr refl, (inl refl, (inl refl, (refl, tt))))))))))))))))
 
 pub id-width : (double : Bool) (reply : ℕ) → IdOf double reply → isDoubleId reply ≡ double
 id-width true reply (inl e) = ap isDoubleId e

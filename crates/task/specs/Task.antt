@@ -1,4 +1,6 @@
 -- The tasks 0 to 15 (document 01, the table of Parameter area). Tasks 11 to 14 also ask for saving; here they act as 8, 7, 3, 2.
+-- The index names an element in every read and change: tasks 1, 2, 3, 13 and 14 use it as 6, 7 and 8 do, while the reply IDs stay
+-- (document 02, W-203). Task 9 does not look at it.
 --     taskRow act width array reply     a row: act, width, whether the index names an element, reply ID
 --     refusedRow                        the row of the task IDs that error 106 answers
 --     tasks                             the rows of the task IDs 0 to 15
@@ -29,10 +31,10 @@ tasks =
     -- 0 none
     taskRow Nothing Either false 0
     -- 1 read
-    ∷ taskRow Read Either false 1
+    ∷ taskRow Read Either true 1
     -- 2 change word, 3 change double
-    ∷ taskRow Change Word false 1
-    ∷ taskRow Change Double false 2
+    ∷ taskRow Change Word true 1
+    ∷ taskRow Change Double true 2
     -- 4, 5
     ∷ refusedRow
     ∷ refusedRow
@@ -48,8 +50,8 @@ tasks =
     -- 11 as 8, 12 as 7, 13 as 3, 14 as 2
     ∷ taskRow Change Double true 5
     ∷ taskRow Change Word true 4
-    ∷ taskRow Change Double false 2
-    ∷ taskRow Change Word false 1
+    ∷ taskRow Change Double true 2
+    ∷ taskRow Change Word true 1
     -- 15
     ∷ refusedRow
     ∷ []

@@ -62,13 +62,13 @@ pub fn task_of(id: u8) -> Task
 {
     match id {
         0..=0 => row(Act::Nothing, Width::Either, false, 0),
-        1..=1 => row(Act::Read, Width::Either, false, 1),
-        2..=3 => row(Act::Change, width_of(id == 2), false, id - 1),
+        1..=1 => row(Act::Read, Width::Either, true, 1),
+        2..=3 => row(Act::Change, width_of(id == 2), true, id - 1),
         6..=6 => row(Act::Read, Width::Either, true, 4),
         7..=8 => row(Act::Change, width_of(id == 7), true, id - 3),
         9..=10 => row(count_if(id == 9), Width::Either, false, id - 3),
         11..=12 => row(Act::Change, width_of(id == 12), true, 16 - id),
-        13..=14 => row(Act::Change, width_of(id == 14), false, 15 - id),
+        13..=14 => row(Act::Change, width_of(id == 14), true, 15 - id),
         _ => row(Act::Refuse, Width::Either, false, 7),
     }
 }

@@ -1,4 +1,5 @@
--- A verdict is the answer of the first row that applies; a task is granted where no row does. Assumes nothing.
+-- In which tasks the index names an element. A verdict is the answer of the first row that applies; a task is granted where no row does.
+-- Assumes nothing.
 use mathlib.Core.Path.{_≡_, refl, ap, _∙_}
 use mathlib.Core.Logic.{_⊎_, inl, inr}
 use mathlib.Core.List.{List, [], _∷_}
@@ -18,8 +19,16 @@ use Rattle.task.specs.declared.Width.the-variants.{Either}
 use Rattle.task.specs.declared.Task.{Task}
 use Rattle.verdict.specs.declared.Verdict.{Verdict}
 use Rattle.verdict.specs.declared.Verdict.the-variants.{Granted, Denied}
-use Rattle.task.specs.Task.{taskRow}
+use Rattle.task.specs.Task.{taskRow, tasks, taskOf}
+use Rattle.task.proofs.TaskLaws.{each-task}
 use Rattle.verdict.specs.Verdict.{refusesAct, changesAct, movesValue, lacksArray, lacksElement, lacksRoom, verdictRows, verdictOf, elementOf}
+
+-- the index names an element in every read and change, and in no other task
+pub index-named : (id : ℕ) → taskOf id .array ≡ movesValue (taskOf id .act)
+unfolding tasks
+index-named =
+    each-task (λ k. k .array ≡ movesValue (k .act)) refl
+    (refl, (refl, (refl, (refl, (refl, (refl, (refl, (refl, (refl, (refl, (refl, (refl, (refl, (refl, (refl, (refl, tt))))))))))))))))
 
 isGranted : Verdict → Bool
 isGranted Granted = true

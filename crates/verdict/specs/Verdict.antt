@@ -1,4 +1,5 @@
--- The errors of a task on a parameter (document 01, Parameter area), in the document's order; the first that applies counts.
+-- The errors of a task on a parameter (document 01, Parameter area; document 02, W-203, for the tasks of 4 and 3), in the document's
+-- order; the first that applies counts.
 -- Of a task k with its index, and the value v that it carries, in an area of n words, on the record e of a parameter. Error 0 is given
 -- where no record is found.
 --     refusesAct act                     whether error 106 answers
@@ -68,7 +69,7 @@ abbrev pub verdictRows : ℕ → Task → Entry → ℕ → ℕ → List (Bool �
 verdictRows n k e index v =
     -- 106 per table
     (refusesAct (k .act), Denied NoTask)
-    -- for tasks 6, 7, 8, 11, 12: 4 not an array and index over 1
+    -- for tasks 1, 2, 3, 6, 7, 8, 11, 12, 13, 14, where the index names an element (W-203): 4 not an array and index over 1
     ∷ (lacksArray k e index, Denied NoArray)
     -- 3 array and index not below its element count
     ∷ (lacksElement k e index, Denied NoElement)
@@ -85,6 +86,7 @@ verdictRows n k e index v =
 unfoldable pub verdictOf : ℕ → Task → Entry → ℕ → ℕ → Verdict
 verdictOf n k e index v = firstOf (verdictRows n k e index v) Granted
 
--- a task whose index names an element means that element of an array; any other the first element (ours)
+-- a task whose index names an element means that element of an array; where there is no array, 0 and 1 both name its one value. A task
+-- that ignores the index uses no element: 0 (ours)
 unfoldable pub elementOf : Task → Entry → ℕ → ℕ
 elementOf k e index = cond (k .array && not (eqb (e .elements) 0)) index 0

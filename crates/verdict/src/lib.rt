@@ -103,7 +103,7 @@ pub fn judge(n: u8, task: Task, e: Entry, index: u8, value: u32) -> Verdict
     }
 }
 
-// The element that a task means: that of its index where the index names one of an array, else the first (ours).
+// The element that a task means: that of its index where the index names one of an array, else 0, the one value where there is no array.
 pub fn pick_element(task: Task, e: Entry, index: u8) -> u8
     ensures { λ r. ⌜ r ≡ elementOf task e index ⌝ }
 {

@@ -93,7 +93,7 @@ unfolding taskOf tasks
 returns-4 c =
     c .row4 .ensures
     ∙ rw (c .before .width-of .ensures)
-    (between (λ k. taskRow Change (cond (eqb k 2) Word Double) false (k - 1) ≡ taskOf k) 2 2 (refl, (refl, tt)) (c .before .before .before .before .args .id) (omega arith) (omega arith))
+    (between (λ k. taskRow Change (cond (eqb k 2) Word Double) true (k - 1) ≡ taskOf k) 2 2 (refl, (refl, tt)) (c .before .before .before .before .args .id) (omega arith) (omega arith))
 
 returns-5 : tie.Need-returns-5
 unfolding taskOf tasks
@@ -121,7 +121,7 @@ unfolding taskOf tasks
 returns-8 c =
     c .row8 .ensures
     ∙ rw (c .before .width-of4 .ensures)
-    (between (λ k. taskRow Change (cond (eqb k 14) Word Double) false (15 - k) ≡ taskOf k) 2 13 (refl, (refl, tt)) (c .before .before .before .before .before .before .before .before .before .args .id) (omega arith) (omega arith))
+    (between (λ k. taskRow Change (cond (eqb k 14) Word Double) true (15 - k) ≡ taskOf k) 2 13 (refl, (refl, tt)) (c .before .before .before .before .before .before .before .before .before .args .id) (omega arith) (omega arith))
 
 returns-9 : tie.Need-returns-9
 unfolding taskOf tasks
