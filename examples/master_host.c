@@ -11,6 +11,8 @@
 
 /* As the drive is set up: node 3, four parameter words, two process words. */
 static const uss_setup setup = {3, 4, 2};
+/* The hertz that 4000 hexadecimal stands for in it. */
+#define REFERENCE 50
 
 /* ---- the line; here a drive that knows one telegram, and a byte of noise before it */
 
@@ -40,6 +42,7 @@ static int ask(uint16_t parameter, uint32_t *value)
     uss_receiver receiver = {0};
     uss_received heard;
     uss_reply r;
+    uss_figure hertz;
     size_t n;
 
     if (b.number != USS_DONE) {
@@ -58,7 +61,13 @@ static int ask(uint16_t parameter, uint32_t *value)
         printf("not read: %u, %s\n", (unsigned)r.number, uss_number_text(r.number));
         return 1;
     }
-    printf("status word %04X, actual value %04X\n", (unsigned)r.process.w1, (unsigned)r.process.w2);
+    hertz = uss_show_hertz(r.process.w2, REFERENCE);
+    if (hertz.number != USS_DONE) {
+        printf("not shown: %u, %s\n", (unsigned)hertz.number, uss_number_text(hertz.number));
+        return 1;
+    }
+    printf("status word %04X, actual value %04X: %.1f Hz, %.1f %%\n", (unsigned)r.process.w1, (unsigned)r.process.w2, hertz.value,
+           uss_show_percent(r.process.w2).value);
     if (r.id == USS_ID_ERROR) {
         printf("the drive says error %u, %s\n", (unsigned)r.value, uss_error_text(r.value));
         return 1;

@@ -4,7 +4,8 @@
  * net bytes are a parameter area (PKW) of 0, 3 or 4 words and a process area (PZD) of 0 to 4 words, high byte first.
  *
  * What holds of every call, for any input:
- *   - it returns; it keeps no state, takes no memory and calls nothing else, so calls on different data may run at once;
+ *   - it returns; it keeps no state and takes no memory, and calls nothing but, on some chips, functions of the compiler's own library
+ *     (docs/CHIPS.md); so calls on different data may run at once;
  *   - it reads only the bytes lent to it, and writes only what its own text names;
  *   - a refusal (a number of 10 and more) writes nothing, reports length 0, and gives back the control words it was given.
  *
@@ -13,8 +14,8 @@
  * come with any pointer, NULL too.
  *
  * Structs go by value. Their layout is that of the chip's own C compiler (docs/CHIPS.md has the chips): no field is packed,
- * and sizes are 3, 8, 4, 16, 16, 8, 20 and 16 bytes in the order below on each of them. On a 32-bit chip size_t has 32 bits, and a
- * count no more. Static asserts of each size and offset are compiled for each target.
+ * and sizes are 3, 8, 4, 16, 16, 8, 20, 16 and 16 bytes in the order below on each of them. On a 32-bit chip size_t has 32 bits, and
+ * a count no more. Static asserts of each size and offset are compiled for each target.
  */
 #ifndef USS_H
 #define USS_H
@@ -29,9 +30,9 @@ extern "C" {
 /* The version of this header and of the archive that comes with it; the text says the three numbers. CHANGELOG.md says what a
  * step of each number means. */
 #define USS_VERSION_MAJOR 0
-#define USS_VERSION_MINOR 3
+#define USS_VERSION_MINOR 4
 #define USS_VERSION_PATCH 0
-#define USS_VERSION "0.3.0"
+#define USS_VERSION "0.4.0"
 
 /* A buffer for a reply or a built telegram has at least this many bytes, however short the telegram is. A receiver's page of so many
  * takes every telegram. */
@@ -46,7 +47,7 @@ extern "C" {
 /* ---- answer numbers: when each is given. Their order is with the calls; docs/PROTOCOL.md, Answer numbers, has the whole */
 
 enum uss_number {
-    USS_REPLIED = 0,         /* slave: a reply was written; build: the telegram was written; read: the reply was read */
+    USS_REPLIED = 0,         /* slave: a reply was written; build: the telegram was written; read: the reply was read; show: a figure */
     USS_MIRRORED = 1,        /* slave: the telegram itself is the reply */
     USS_TAKEN = 2,           /* slave: a broadcast was taken; there is no reply */
 
@@ -68,7 +69,9 @@ enum uss_number {
     USS_UNFIT_SETUP = 30,    /* master: set-up as 20 */
     USS_NOT_ASKABLE = 31,    /* master: request not expressible */
     USS_SHORT_OUT = 32,      /* master: buffer under 256 bytes */
-    USS_NOT_THE_REPLY = 33   /* master: a sound telegram, but no reply to this task */
+    USS_NOT_THE_REPLY = 33,  /* master: a sound telegram, but no reply to this task */
+
+    USS_BAD_REFERENCE = 50   /* hertz: reference not 1 to 650 */
 };
 #define USS_DONE USS_REPLIED
 
@@ -176,6 +179,13 @@ typedef struct {
 typedef struct {
     uint32_t number, rule, record, place;
 } uss_table_check;
+
+/* What a panel shows of a process word: number 0 or 50; raw is the word where the raw word is shown, value the figure where hertz or
+ * percent is. What is not shown is 0, the double positive zero; with 50 both are 0. */
+typedef struct {
+    uint32_t number, raw;
+    double value;
+} uss_figure;
 
 /* ---- a parameter table as constant bytes
  *
@@ -346,6 +356,30 @@ uss_built uss_build_broadcast(uss_setup setup, uint16_t selector, uint16_t mask1
  */
 uss_reply uss_read_reply(uss_setup setup, uint8_t task, uint16_t parameter, uint8_t index, uint32_t value,
                          uss_words process, const uint8_t *received, size_t received_len);
+
+/* ---- figures for a panel
+ *
+ * 4000 hexadecimal, which is 16384, stands for the drive's reference, and the word is signed: C000 is the reference backwards. A drive
+ * that scales its words otherwise (MICROMASTER: P2009 = 1) is not for these calls. Hertz and percent are exact in a double, nothing is
+ * rounded: the figure times 16384 is the word times reference or 100. Word 0 is positive zero. Where a chip computes no doubles by
+ * itself, these two ask for its compiler's soft-float functions (docs/CHIPS.md, Doubles).
+ *
+ * word       the process word as it came, mostly the second: set point or actual value, as in the process.w2 of a uss_reply.
+ */
+
+/* Shows a word as hertz: word * reference / 16384. 4000 hexadecimal at a reference of 50 is 50.0.
+ *
+ * reference  the hertz that 4000 hexadecimal stands for, 1 to 650 whole hertz.
+ *
+ * Numbers in test order: 50, then 0. With 50 there is no figure.
+ */
+uss_figure uss_show_hertz(uint16_t word, uint32_t reference);
+
+/* Shows a word as percent of the reference: word * 100 / 16384. 4000 hexadecimal is 100.0. It is never refused. */
+uss_figure uss_show_percent(uint16_t word);
+
+/* Shows a word as it came, without a sign. It is never refused. */
+uss_figure uss_show_raw(uint16_t word);
 
 /* ---- bytes */
 

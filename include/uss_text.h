@@ -10,7 +10,7 @@
 #include "uss.h"
 
 /* The text of an answer number (enum uss_number); "no answer number" for any other. 0 is one text for all calls: the slave has
- * replied, the telegram is built, the reply is read. */
+ * replied, the telegram is built, the reply is read, a figure is shown. */
 static inline const char *uss_number_text(uint32_t number)
 {
     switch (number) {
@@ -34,6 +34,7 @@ static inline const char *uss_number_text(uint32_t number)
     case USS_NOT_ASKABLE: return "no telegram says this request";
     case USS_SHORT_OUT: return "telegram buffer under 256 bytes";
     case USS_NOT_THE_REPLY: return "not the reply to this task";
+    case USS_BAD_REFERENCE: return "reference not 1 to 650";
     default: return "no answer number";
     }
 }

@@ -132,6 +132,7 @@ def accepted(name):
     return [int(value) for _, value in DEFINED[name][1] if value.isdigit()]
 
 
+SHOW = sorted(set(numbers_of("figureNumber")), reverse=True)  # its one refusal, then 0
 SLAVE, BUILD, READ = SLAVE + accepted("answerNumber"), BUILD + accepted("builtNumber"), READ + accepted("readNumber")
 VERDICT = cases(body_of("slave", "Perform", "planOn"), "errorArea a", "errorNumber") \
     + cases(body_of("verdict", "Verdict", "verdictRows"), "Denied", "errorNumber")
@@ -175,9 +176,9 @@ def orders_of(page):
     return found
 
 
-same("docs/PROTOCOL.md: orders of slave, build, reading", orders_of("docs/PROTOCOL.md"), [SLAVE, BUILD, READ])
-same("docs/CALLS.md: orders of slave, three builds, reading", orders_of("docs/CALLS.md"), [SLAVE, BUILD, BUILD, BUILD, READ])
-same("include/uss.h: orders of slave, table check, build, reading", orders_of("include/uss.h"), [SLAVE, TABLE, BUILD, READ])
+same("docs/PROTOCOL.md: orders of slave, build, reading, hertz", orders_of("docs/PROTOCOL.md"), [SLAVE, BUILD, READ, SHOW])
+same("docs/CALLS.md: orders of slave, three builds, reading, hertz", orders_of("docs/CALLS.md"), [SLAVE, BUILD, BUILD, BUILD, READ, SHOW])
+same("include/uss.h: orders of slave, table check, build, reading, hertz", orders_of("include/uss.h"), [SLAVE, TABLE, BUILD, READ, SHOW])
 
 # ---- docs/PROTOCOL.md: pages and tasks
 
@@ -223,6 +224,6 @@ for name, column in (("task1082", [task for task, _ in cells]), ("value1082", [r
     same(f"docs/PROTOCOL.md: the bytes of {name}", [int(byte, 16) for byte in " ".join(column).split()], telegram_of(name))
 
 print(f"numbers: {len(ANSWERS)} answer numbers, {len(ERRORS)} parameter errors, {len(TASKS)} tasks, {len(pages)} pages; "
-      f"{len(RULES)} rules of a table, {len(DEFINED)} definitions, 4 orders, 3 telegrams")
+      f"{len(RULES)} rules of a table, {len(DEFINED)} definitions, 5 orders, 3 telegrams")
 sys.exit(failed)
 PYTHON

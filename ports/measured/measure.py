@@ -9,7 +9,7 @@ import sys
 HERE = os.path.dirname(os.path.abspath(__file__))
 sys.path.insert(0, os.path.join(HERE, "..", "..", "tests", "ports"))
 
-from machines import ROOT, TARGETS, X86, Builder, command, machine_of
+from machines import GCC, ROOT, TARGETS, X86, Builder, command, machine_of, own_runtime
 
 import archive
 import elf
@@ -26,17 +26,10 @@ SECTIONS = ["-ffunction-sections", "-fdata-sections"]
 # what is measured against: the peer at its smallest of these
 PEER = {"-Oz": ["-Oz"], "-Oz, all inlined": archive.SIZE[:3], "-Oz, branches kept": ["-Oz", *archive.SIZE[3:]],
         "as ours": archive.SIZE, "-Os": ["-Os"]}
-# a firmware's own compiler: its name and what it is told
-GCC = {
-    "cortex-m0": ["arm-none-eabi-gcc", "-mcpu=cortex-m0", "-mthumb"],
-    "cortex-m3": ["arm-none-eabi-gcc", "-mcpu=cortex-m3", "-mthumb"],
-    "cortex-m4": ["arm-none-eabi-gcc", "-mcpu=cortex-m4", "-mthumb", "-mfloat-abi=soft"],
-    "cortex-m4f": ["arm-none-eabi-gcc", "-mcpu=cortex-m4", "-mthumb", "-mfloat-abi=hard", "-mfpu=fpv4-sp-d16"],
-    "riscv32": ["riscv64-unknown-elf-gcc", "-march=rv32imac", "-mabi=ilp32"],
-}
 PEERS = {"uss_slave": "peer_slave", "uss_build_task": "peer_build_task", "uss_read_reply": "peer_read_reply", "uss_bcc": "peer_bcc",
          "uss_receive": "peer_receive", "uss_receive_bytes": "peer_receive_bytes", "uss_pause": "peer_pause"}
 MASTER = ["uss_build_task", "uss_read_reply"]
+DOUBLES = ["uss_show_hertz", "uss_show_percent"]
 
 
 def out(*names):
@@ -81,11 +74,6 @@ class Measure:
         said([*words, "-c", os.path.join(BENCH, "peer.c"), "-o", to])
         return to
 
-    def libgcc(self, name):
-        """The firmware compiler's own library, and what runtime.c is told then; nothing where it is not here."""
-        gcc = GCC[name]
-        return ([said([*gcc, "-print-libgcc-file-name"])], ["-DWITH_LIBGCC"]) if here(gcc[0]) else ([], [])
-
     # ---- bytes
 
     def alone(self, calls, file):
@@ -116,7 +104,8 @@ class Measure:
         self.clang(name, os.path.join(TESTS, "runtime.c"), out(name, "runtime.o"), "-Oz", "-DWITH_LIBGCC", *SECTIONS)
         peers = {label: self.peer(name, flags, re.sub(r"\W", "", label)) for label, flags in PEER.items()}
         found = {}
-        for what, calls in {"slave": ["uss_slave"], "master": MASTER, **{call: [call] for call in self.head.calls}}.items():
+        together = {"slave": ["uss_slave"], "master": MASTER, "doubles": DOUBLES}
+        for what, calls in {**together, **{call: [call] for call in self.head.calls}}.items():
             found[what, "ours"] = self.alone(calls, library(name))
             found[what, "ours linked"] = self.linked(name, calls, library(name))
             if all(call in PEERS for call in calls):
@@ -147,8 +136,7 @@ class Measure:
 
     def stacks(self, name, who, wanted):
         """Bytes of stack of each call, the deepest of all that the driver makes. The answers are x86-64's, the peer's too."""
-        libgcc, own = self.libgcc(name)
-        files, more = [library(name), *libgcc], ["-DSTACK", *own]
+        files, more = [library(name)], ["-DSTACK"]
         if who == "peer":
             files.insert(0, self.peer(name, ["-Oz"], "stack"))
             more += [f"-D{ours}={peer}" for ours, peer in PEERS.items()]
@@ -169,8 +157,7 @@ class Measure:
         if part is None:
             raise Refused("bench/bench.c has no part that makes the rows")
         archive.write(out("rows.h"), part[0])
-        libgcc, more = self.libgcc(name)
-        files = [library(name), *libgcc]
+        files, more = [library(name)], own_runtime(name)
         if who == "peer":
             more = more + [f"-D{ours[4:].upper()}={peer}" for ours, peer in PEERS.items()]
             files.insert(0, self.peer(name, ["-Oz"], "rows"))
@@ -216,6 +203,8 @@ class Measure:
                    "slave, Cortex-M3, --aligned": aligned}
         for name in ("cortex-m3", "cortex-m0"):
             figures.update({f"stack of {call}, {name}": stacks[name, "ours"][call] for call in ("uss_slave", "uss_list")})
+        figures.update({f"doubles, {name}, with library": f["doubles", "ours linked"] for name, f in found.items()
+                        if f["doubles", "ours linked"] is not None})
         figures.update({row: n for row, n in rows if row in ("read, 1 record", "read, 16 records", "read, 512 records")})
         with open(os.path.join(ROOT, "docs", "CHIPS.md")) as file:
             text = file.read()

@@ -4,8 +4,9 @@ from collections import namedtuple
 
 from refuse import Refused
 
-# bytes of a number, which are its alignment too on every target
+# bytes of a number, which are its alignment too on every target; a double is only a field of a struct that is returned
 NUMBERS = {"uint8_t": 1, "uint16_t": 2, "uint32_t": 4, "uint64_t": 8}
+FIELDS = {**NUMBERS, "double": 8}
 
 Struct = namedtuple("Struct", "name size align fields")  # fields: (type, name, offset)
 # kind: "number", "struct" or "slice"; of a slice, type is the element's, count its length's name, const as the header says
@@ -97,8 +98,8 @@ def read_struct(r, structs):
     at, align, fields = 0, 1, []
     while r.peek() != "}":
         type_ = r.name()
-        if type_ in NUMBERS:
-            size = own = NUMBERS[type_]
+        if type_ in FIELDS:
+            size = own = FIELDS[type_]
         elif type_ in structs:
             size, own = structs[type_].size, structs[type_].align
         else:
@@ -117,6 +118,10 @@ def read_struct(r, structs):
     return Struct(name, -(-at // align) * align, align, fields)
 
 
+def has_double(structs, type_):
+    return any(t == "double" or t in structs and has_double(structs, t) for t, _, _ in structs[type_].fields)
+
+
 def read_parameter(r, structs):
     const = r.peek() == "const"
     if const:
@@ -130,7 +135,7 @@ def read_parameter(r, structs):
         r.take(",")
         r.take("size_t")
         return Parameter("slice", type_, name, r.name(), const)
-    if const or (type_ not in NUMBERS and type_ not in structs):
+    if const or (type_ not in NUMBERS and (type_ not in structs or has_double(structs, type_))):
         r.fail(f"a parameter of type {'const ' if const else ''}{type_}")
     return Parameter("number" if type_ in NUMBERS else "struct", type_, r.name(), None, False)
 

@@ -116,11 +116,13 @@ def prove(root, kit, folder):
 
 # ---- reading
 
-# All words that may stand in a function, but for names and numbers: none of them means one thing on x86-64 and another elsewhere.
-OPCODES = set("""add alloca and ashr br call getelementptr icmp load lshr mul or phi ret sdiv select sext shl srem store sub switch
-    trunc udiv unreachable urem xor zext""".split())
-WORDS = OPCODES | set("""align eq exact false i1 i16 i32 i64 i8 inbounds label ne noundef nsw nuw ptr range sge sgt sle slt to true
-    uge ugt ule ult void x zeroext""".split())
+# All words that may stand in a function, but for names and numbers: none of them means one thing on x86-64 and another elsewhere. A
+# double is IEEE 754's binary64 on each target, rounded to the nearest, by the chip or by its compiler's library.
+OPCODES = set("""add alloca and ashr br call fdiv getelementptr icmp load lshr mul or phi ret sdiv select sext shl sitofp srem store
+    sub switch trunc udiv unreachable urem xor zext""".split())
+WORDS = OPCODES | set("""align double eq exact false i1 i16 i32 i64 i8 inbounds label ne noundef nsw nuw ptr range sge sgt sle slt to
+    true uge ugt ule ult void x zeroext""".split())
+NUMBER = r"-?\b\d+(?:\.\d+e[+-]\d+)?\b"
 MEMMOVE = "llvm.memmove.p0.p0.i64"
 HEAD = re.compile(r'define (internal )?(?:noundef |zeroext )*(.+?) @("[^"]+"|\w+)\((.*)\) #0 \{')
 TAIL = [  # all that may stand outside functions
@@ -157,7 +159,7 @@ def read_body(name, lines):
         if text == "" or re.fullmatch(r"[\w.]+:", text):
             continue
         called = re.findall(r'@("[^"]+"|[\w.]+)', text)
-        bare = re.sub(r'@("[^"]+"|[\w.]+)|%[\w.]+|!\w+|-?\b\d+\b', " ", text)
+        bare = re.sub(rf'@("[^"]+"|[\w.]+)|%[\w.]+|!\w+|{NUMBER}', " ", text)
         unknown = set(re.findall(r"[^\s(),=\[\]]+", bare)) - WORDS
         if unknown or len(called) > 1 or not set(re.findall(r"!([a-z]\w*)", text)) <= {"noundef", "range"}:
             raise Refused(f"the module's {name} has an instruction that is not understood: {text.strip()}")

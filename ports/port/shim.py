@@ -5,7 +5,7 @@ bits), a number as itself, a returned struct by a first pointer. So a shim is ma
 prototypes are compared with the module and with the library's source."""
 import re
 
-from header import NUMBERS
+from header import FIELDS
 from refuse import Refused
 
 IR = {"uint8_t": "i8", "uint16_t": "i16", "uint32_t": "i32", "uint64_t": "i64"}
@@ -64,7 +64,7 @@ def asserts(header):
         lines.append(f'_Static_assert(sizeof({struct.name}) == {struct.size}, "size of {struct.name}");')
         for _, field, offset in struct.fields:
             lines.append(f'_Static_assert(offsetof({struct.name}, {field}) == {offset}, "place of {struct.name}.{field}");')
-    for type_, size in NUMBERS.items():
+    for type_, size in FIELDS.items():
         lines.append(f'_Static_assert(sizeof({type_}) == {size} && _Alignof({type_}) == {size}, "{type_}");')
     return lines
 

@@ -3,11 +3,11 @@ structs with the same fields by name, order and type."""
 import os
 import re
 
-from header import NUMBERS
+from header import FIELDS
 from module import LIBRARY, needed
 from refuse import Refused
 
-RATTLE = {"uint8_t": "u8", "uint16_t": "u16", "uint32_t": "u32", "uint64_t": "u64"}
+RATTLE = {"uint8_t": "u8", "uint16_t": "u16", "uint32_t": "u32", "uint64_t": "u64", "double": "f64"}
 
 
 def texts(folder):
@@ -43,7 +43,7 @@ def compare(header, root):
 
     def agree(where, type_, found):
         """The header's type and the source's are one."""
-        if type_ in NUMBERS:
+        if type_ in FIELDS:
             good = found == RATTLE[type_]
         elif type_ in same:
             good = same[type_] == found

@@ -461,6 +461,49 @@ pub fn read_reply(setup: Setup, request: Request, received: &[u8]) -> Result<Rep
     }
 }
 
+/// Shows a process word as hertz: the word, signed, times the reference over 16384, exactly. The reference is what 4000 hexadecimal
+/// stands for, 1 to 650 whole hertz; `BadReference` for any other. Word 0 is positive zero.
+///
+/// On a chip that computes no doubles this and [`show_percent`] take two functions of the compiler's soft-float library: docs/CHIPS.md,
+/// Doubles.
+///
+/// ```
+/// use uss::Refusal;
+///
+/// assert_eq!(uss::show_hertz(0x4000, 50), Ok(50.0));
+/// assert_eq!(uss::show_hertz(0xE000, 60), Ok(-30.0));
+/// assert_eq!(uss::show_hertz(0x4000, 651), Err(Refusal::BadReference));
+/// ```
+pub fn show_hertz(word: u16, reference: u32) -> Result<f64, Refusal> {
+    // SAFETY: the call takes any numbers; nothing is lent to it (docs/PROMISES.md, demand 1).
+    let r = unsafe { raw::uss_show_hertz(word, reference) };
+    match r.number {
+        0 => Ok(r.value),
+        number => Err(Refusal::from(number)),
+    }
+}
+
+/// Shows a process word as percent of the reference: the word, signed, times 100 over 16384, exactly. Word 0 is positive zero.
+///
+/// ```
+/// assert_eq!(uss::show_percent(0x4000), 100.0);
+/// assert_eq!(uss::show_percent(0xFFFF), -0.006103515625);
+/// ```
+pub fn show_percent(word: u16) -> f64 {
+    // SAFETY: the call takes any number; nothing is lent to it (docs/PROMISES.md, demand 1).
+    unsafe { raw::uss_show_percent(word) }.value
+}
+
+/// Shows a process word as it came, without a sign.
+///
+/// ```
+/// assert_eq!(uss::show_raw(0xFFFF), 65535);
+/// ```
+pub fn show_raw(word: u16) -> u32 {
+    // SAFETY: the call takes any number; nothing is lent to it (docs/PROMISES.md, demand 1).
+    unsafe { raw::uss_show_raw(word) }.raw
+}
+
 /// Writes a text that describes the first 300 received bytes to the start of `out`, and returns it; none, and nothing written, where
 /// `out` is too short. [`LISTING`] bytes are always enough.
 ///

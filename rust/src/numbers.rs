@@ -79,6 +79,8 @@ numbers! {
     ShortOut = 32,
     /// Master: a sound telegram, but no reply to this task.
     NotTheReply = 33,
+    /// Hertz: reference not 1 to 650.
+    BadReference = 50,
 }
 
 numbers! {

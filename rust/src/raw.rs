@@ -38,6 +38,13 @@ pub struct TableCheck {
     pub place: u32,
 }
 
+#[repr(C)]
+pub struct Figure {
+    pub number: u32,
+    pub raw: u32,
+    pub value: f64,
+}
+
 extern "C" {
     pub fn uss_receive(receiver: Receiver, items: *const u16, item_count: usize, page: *mut u8, page_len: usize) -> Received;
     pub fn uss_receive_bytes(receiver: Receiver, bytes: *const u8, byte_count: usize, page: *mut u8, page_len: usize) -> Received;
@@ -57,6 +64,9 @@ extern "C" {
     pub fn uss_read_reply(
         setup: Setup, task: u8, parameter: u16, index: u8, value: u32, process: Words, received: *const u8, received_len: usize,
     ) -> Reply;
+    pub fn uss_show_hertz(word: u16, reference: u32) -> Figure;
+    pub fn uss_show_percent(word: u16) -> Figure;
+    pub fn uss_show_raw(word: u16) -> Figure;
     pub fn uss_list(received: *const u8, received_len: usize, out: *mut u8, out_len: usize) -> u32;
     pub fn uss_bcc(bytes: *const u8, len: usize) -> u8;
 }
@@ -70,3 +80,4 @@ const _: () = assert!(core::mem::size_of::<Answer>() == 16);
 const _: () = assert!(core::mem::size_of::<Built>() == 8);
 const _: () = assert!(core::mem::size_of::<Reply>() == 20);
 const _: () = assert!(core::mem::size_of::<TableCheck>() == 16);
+const _: () = assert!(core::mem::size_of::<Figure>() == 16);

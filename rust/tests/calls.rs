@@ -213,3 +213,21 @@ fn what_is_no_telegram_is_taken_and_ignored() {
         assert_eq!(uss::pause(Receiver { state }), Receiver { state: 1 });
     }
 }
+
+#[test]
+fn figures_are_exact() {
+    for word in 0..=u16::MAX {
+        let signed = word as i16;
+        for reference in [1, 50, 60, 650] {
+            let shown = uss::show_hertz(word, reference).unwrap();
+            assert_eq!(shown * 16384.0, f64::from(signed as i32 * reference as i32));
+            assert_eq!(shown.is_sign_negative(), signed < 0, "word {word}");
+        }
+        assert_eq!(uss::show_percent(word) * 16384.0, f64::from(signed as i32 * 100));
+        assert_eq!(uss::show_percent(word).is_sign_negative(), signed < 0, "word {word}");
+        assert_eq!(uss::show_raw(word), word.into());
+    }
+    for reference in [0, 651, 65536 + 50, u32::MAX] {
+        assert_eq!(uss::show_hertz(0x4000, reference), Err(Refusal::BadReference));
+    }
+}

@@ -41,6 +41,7 @@ fn numbers(name: &str) -> BTreeMap<u32, String> {
 fn rust_type(c: &str) -> String {
     match c {
         "size_t" => "usize".to_string(),
+        "double" => "f64".to_string(),
         c if c.starts_with("uint") => format!("u{}", c.trim_start_matches("uint").trim_end_matches("_t")),
         c => camel(&c.to_uppercase()),
     }

@@ -1,5 +1,5 @@
-/* Each call once from C: known telegrams (K1 to K6, K9, K10 of document 01), bad use, each rule of a table broken, and lines for the
- * receiver (W-201). Prints a line for each group. */
+/* Each call once from C: known telegrams (K1 to K6, K9, K10 of document 01), bad use, each rule of a table broken, lines for the
+ * receiver (W-201), and figures for a panel (W-204). Prints a line for each group. */
 #define _DEFAULT_SOURCE
 #include "uss.h"
 
@@ -501,13 +501,42 @@ static void received_and_answered(void)
     puts("received and answered");
 }
 
+/* A figure's number, raw word and double, the double by its bits: negative zero is another one. */
+static int shows(uss_figure f, uint32_t number, uint32_t raw, double value)
+{
+    return f.number == number && f.raw == raw && memcmp(&f.value, &value, sizeof value) == 0;
+}
+
+static void figures(void)
+{
+    uss_reply r;
+
+    expect(shows(uss_show_hertz(0x4000, 50), 0, 0, 50.0) && shows(uss_show_percent(0x4000), 0, 0, 100.0), "4000 is the reference");
+    expect(shows(uss_show_hertz(0xC000, 50), 0, 0, -50.0) && shows(uss_show_percent(0xC000), 0, 0, -100.0), "the word is signed");
+    expect(shows(uss_show_hertz(0x8000, 650), 0, 0, -1300.0) && shows(uss_show_percent(0x8000), 0, 0, -200.0), "-32768");
+    expect(shows(uss_show_hertz(0xFFFF, 1), 0, 0, -1.0 / 16384) && shows(uss_show_percent(0xFFFF), 0, 0, -100.0 / 16384), "-1");
+    expect(shows(uss_show_hertz(0, 650), 0, 0, 0.0) && shows(uss_show_percent(0), 0, 0, 0.0), "0 is positive zero");
+    expect(shows(uss_show_hertz(0x7FFF, 649), 0, 0, 21265783.0 / 16384) && shows(uss_show_hertz(1, 1), 0, 0, 1.0 / 16384), "32767 and 1");
+    expect(shows(uss_show_hertz(0x4000, 0), USS_BAD_REFERENCE, 0, 0.0) && shows(uss_show_hertz(0x4000, 651), USS_BAD_REFERENCE, 0, 0.0)
+           && shows(uss_show_hertz(0x4000, 0xFFFFFFFFu), USS_BAD_REFERENCE, 0, 0.0)
+           && shows(uss_show_hertz(0x4000, 65536 + 50), USS_BAD_REFERENCE, 0, 0.0), "a reference out of range, and no figure");
+    expect(shows(uss_show_raw(0x8000), 0, 0x8000, 0.0) && shows(uss_show_raw(0), 0, 0, 0.0), "the raw word as it came");
+
+    /* from a reply to a panel: the actual value of K3 is half the reference */
+    r = uss_read_reply(setup, USS_READ, 1082, 0, 0, command, k3, 16);
+    expect(r.number == USS_DONE && shows(uss_show_hertz(r.process.w2, 50), 0, 0, 25.0), "K3 shows 25 Hz");
+    puts("figures");
+}
+
 static void layouts(void)
 {
     expect(sizeof(uss_setup) == 3 && sizeof(uss_words) == 8 && sizeof(uss_receiver) == 4 && sizeof(uss_received) == 16
-           && sizeof(uss_answer) == 16 && sizeof(uss_built) == 8 && sizeof(uss_reply) == 20 && sizeof(uss_table_check) == 16, "sizes");
+           && sizeof(uss_answer) == 16 && sizeof(uss_built) == 8 && sizeof(uss_reply) == 20 && sizeof(uss_table_check) == 16
+           && sizeof(uss_figure) == 16, "sizes");
     expect(offsetof(uss_received, taken) == 0 && offsetof(uss_received, length) == 8 && offsetof(uss_received, receiver) == 12
            && offsetof(uss_receiver, state) == 0, "places of the receiver");
     expect(offsetof(uss_answer, control) == 8 && offsetof(uss_reply, process) == 12, "places");
+    expect(offsetof(uss_figure, raw) == 4 && offsetof(uss_figure, value) == 8, "places of a figure");
     puts("layouts");
 }
 
@@ -525,6 +554,7 @@ int main(void)
     pages_of_other_lengths();
     other_states();
     received_and_answered();
+    figures();
     if (!failed)
         puts("all as expected");
     return failed;

@@ -4,7 +4,7 @@
 //!
 //!     host [SEED [ROUNDS]]
 mod model;
-use model::{Setup, Task, Words};
+use model::{Setup, Task, Unit, Words};
 use std::collections::BTreeMap;
 use std::process::exit;
 
@@ -55,6 +55,14 @@ struct Received {
     receiver: Receiver,
 }
 
+#[repr(C)]
+#[derive(Clone, Copy)]
+struct Figure {
+    number: u32,
+    raw: u32,
+    value: f64,
+}
+
 #[link(name = "uss_c", kind = "static")]
 extern "C" {
     fn uss_receive(receiver: Receiver, items: *const u16, item_count: usize, page: *mut u8, page_len: usize) -> Received;
@@ -78,6 +86,9 @@ extern "C" {
     fn uss_list(received: *const u8, received_len: usize, out: *mut u8, out_len: usize) -> u32;
     fn uss_bcc(bytes: *const u8, len: usize) -> u8;
     fn uss_check_table(table: *const u8, table_len: usize, values: *const u32, value_count: usize) -> TableCheck;
+    fn uss_show_hertz(word: u16, reference: u32) -> Figure;
+    fn uss_show_percent(word: u16) -> Figure;
+    fn uss_show_raw(word: u16) -> Figure;
 }
 
 // ---- memory between two pages that may not be touched
@@ -886,6 +897,29 @@ impl Bench {
     }
 }
 
+fn figure(b: &mut Bench, what: &'static str, word: u16, reference: u32, f: Figure, want: (u32, u32, u64)) {
+    let got = (f.number, f.raw, f.value.to_bits());
+    if got != want {
+        differ(what, format!("word {word:04X}, reference {reference}: {got:X?}, not {want:X?}"));
+    }
+    b.counts.met(what, f.number);
+}
+
+fn hertz(b: &mut Bench, word: u16, reference: u32) {
+    figure(b, "show hertz", word, reference, unsafe { uss_show_hertz(word, reference) }, model::figure(Unit::Hertz, word, reference));
+}
+
+/// Every word as each unit; as hertz at the ends of the reference, beside them, and within.
+fn figures(b: &mut Bench) {
+    for word in 0..=u16::MAX {
+        for reference in [0, 1, 50, 60, 400, 649, 650, 651, u32::MAX] {
+            hertz(b, word, reference);
+        }
+        figure(b, "show percent", word, 0, unsafe { uss_show_percent(word) }, model::figure(Unit::Percent, word, 0));
+        figure(b, "show raw", word, 0, unsafe { uss_show_raw(word) }, model::figure(Unit::Raw, word, 0));
+    }
+}
+
 fn any_room(d: &mut Dice) -> usize {
     match d.below(16) {
         0 => d.pick(&[0, 1, 16, 64, 128, 254, 255]),
@@ -1120,9 +1154,12 @@ fn main() {
         counts: Counts::default(),
         items: 0,
     };
+    figures(&mut b);
     let mut lines = Dice(!seed);
     for _ in 0..rounds {
         line(&mut b, &mut lines);
+        let reference = if lines.one_in(9) { lines.next() as u32 } else { lines.below(655) as u32 };
+        hertz(&mut b, lines.word(), reference);
         sequence(&mut b, &mut d);
         conversation(&mut b, &mut d);
         orders(&mut b, &mut d);
@@ -1136,9 +1173,11 @@ fn main() {
     }
     let c = &b.counts;
     let receiving: u64 = ["receive", "receive bytes", "pause"].iter().map(|w| c.total(w)).sum();
+    let showing: u64 = ["show hertz", "show percent", "show raw"].iter().map(|w| c.total(w)).sum();
     let others = ["slave answer", "build task", "build mirror", "build broadcast", "read", "list", "bcc", "rule"];
-    let calls: u64 = receiving + others.iter().map(|w| c.total(w)).sum::<u64>();
+    let calls: u64 = receiving + showing + others.iter().map(|w| c.total(w)).sum::<u64>();
     println!("calls {calls}, of them {} of the slave", c.total("slave answer"));
+    println!("figures: calls {showing}, each of 65536 words at 9 references, as percent and raw, and random pairs");
     let handed_out = c.count("receive", 3) + c.count("receive bytes", 3);
     println!("receiver: items {}, calls {receiving}, telegrams handed out {handed_out}", b.items);
     // floors hold for the default number of rounds and scale with it
@@ -1168,6 +1207,9 @@ fn main() {
     good &= c.report("pause", &[1], floor);
     good &= c.report("LGE handed out", &[3, 4, 253, 254], floor);
     good &= c.report("receiver's page", &ROOMS.map(|room| room as u32), floor);
+    good &= c.report("show hertz", &[0, 50], 3 * 65536);
+    good &= c.report("show percent", &[0], 65536);
+    good &= c.report("show raw", &[0], 65536);
     if b.items < 1_000_000 && rounds >= 100_000 {
         println!("fewer than a million items");
         good = false;

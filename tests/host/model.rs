@@ -596,6 +596,36 @@ pub fn receive(state: u32, page: &[u8], items: &[u16]) -> Heard {
     heard
 }
 
+// ---- figures (document 02, W-204)
+
+pub enum Unit {
+    Hertz,
+    Percent,
+    Raw,
+}
+
+/// What a panel shows of a word: the answer's number, the raw word, and the bits of the double.
+pub fn figure(unit: Unit, word: u16, reference: u32) -> (u32, u32, u64) {
+    let signed = if word < 0x8000 { word as i64 } else { word as i64 - 0x1_0000 };
+    match unit {
+        Unit::Hertz if reference == 0 || reference > 650 => (50, 0, 0),
+        Unit::Hertz => (0, 0, bits_over_16384(signed * reference as i64)),
+        Unit::Percent => (0, 0, bits_over_16384(signed * 100)),
+        Unit::Raw => (0, word as u32, 0),
+    }
+}
+
+/// The bits of the double z / 16384, by whole numbers alone: the sign, the power of two of the leading digit, the digits below it.
+fn bits_over_16384(z: i64) -> u64 {
+    let size = z.unsigned_abs();
+    if size == 0 {
+        return 0;
+    }
+    let leading = 63 - size.leading_zeros() as u64;
+    let below = size - (1 << leading);
+    (z < 0) as u64 * (1 << 63) + (1023 + leading - 14) * (1 << 52) + below * (1 << (52 - leading))
+}
+
 // ---- listing
 
 pub fn listing(received: &[u8]) -> String {

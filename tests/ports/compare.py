@@ -1,5 +1,5 @@
 """The same answers on every target: runs the driver on x86-64 and then on each target, and compares their streams byte for byte.
-Then three kinds of wrong port, each of which the comparison must see."""
+Then four kinds of wrong port, each of which the comparison must see."""
 import itertools
 import os
 import re
@@ -10,7 +10,7 @@ import sys
 import time
 from concurrent.futures import ThreadPoolExecutor
 
-from machines import ROOT, TARGETS, TEST, X86, Builder, command, machine_of
+from machines import BOARDS, ROOT, TARGETS, TEST, X86, Builder, command, machine_of
 
 import archive
 import elf
@@ -123,17 +123,26 @@ def library(name):
 
 # what an object may ask of the compiler's own library: docs/CHIPS.md says which does
 ASKED = {"memcpy", "__aeabi_memcpy", "__aeabi_uidiv", "__aeabi_uidivmod"}
+# what the calls with doubles, and no other, ask for where the chip computes none: the whole number as a double, and the product
+DOUBLES = {**dict.fromkeys(BOARDS, ["__aeabi_dmul", "__aeabi_i2d"]), "riscv32": ["__floatsidf", "__muldf3"]}
+WITH_DOUBLES = {"uss_show_hertz.o", "uss_show_percent.o"}
 
 
 def outside(name, head):
-    """What is wrong with an archive: other calls than the header's, data in RAM, a function from outside not named above."""
+    """What is wrong with an archive: other calls than the header's, data in RAM, a function from outside not named above, doubles in
+    software that docs/CHIPS.md does not name."""
     found = []
+    with open(os.path.join(ROOT, "docs", "CHIPS.md")) as file:
+        page = file.read()
     for member, file in elf.members(library(name)[0]).items():
         if file.names("global") != [member[:-2]] or member[:-2] not in head.calls:
             found.append(f"{name} {member} offers {' '.join(file.names('global'))}")
         if file.written():
             found.append(f"{name} {member} has data")
-        found += [f"{name} {member} asks for {other}" for other in file.names("undefined") if other not in ASKED]
+        asked, doubles = file.names("undefined"), DOUBLES.get(name, []) if member in WITH_DOUBLES else []
+        found += [f"{name} {member} asks for {other}" for other in asked if other not in ASKED and other not in doubles]
+        found += [f"{name} {member} does not ask for {other}" for other in doubles if other not in asked]
+        found += [f"docs/CHIPS.md does not name {other}" for other in doubles if f"`{other}`" not in page]
     return found
 
 
@@ -203,6 +212,18 @@ def one_too_many(builder, name, head):
     return wrong_program(builder, name, "count", [("uss_bcc.c", text, words)], head)
 
 
+def minus_zero(builder, name, head):
+    """Doubles in software whose product by 1 / 16384 is right, but for zero, which it makes negative."""
+    text = """#include <stdint.h>
+uint64_t __aeabi_dmul(uint64_t a, uint64_t b)
+{
+    (void)b;
+    return a == 0 ? (uint64_t)1 << 63 : a - ((uint64_t)14 << 52);
+}
+"""
+    return wrong_program(builder, name, "zero", [("dmul.c", text, [])], head)
+
+
 def must_differ(name, program, wanted, head):
     try:
         run(name, program, wanted, head)
@@ -234,7 +255,8 @@ def main():
         return 1
 
     wrong = [text for name in TARGETS if name != "wasm32" for text in outside(name, head)]
-    say(not wrong, "; ".join(wrong) or "archives: an object for each call, no data, no 64-bit division, nothing else from outside")
+    say(not wrong, "; ".join(wrong) or "archives: an object for each call, no data, no 64-bit division, doubles in software for two calls, "
+        "nothing else from outside")
 
     def one(name):
         try:
@@ -262,6 +284,8 @@ def main():
             seen = must_differ(name, one_too_many(builder, name, head), wanted, head)
             good = seen is not None and seen.startswith("stops with status")
             say(good, f"{name} with a count one too large is " + (f"seen: {seen}" if seen else "not seen"))
+        seen = must_differ("cortex-m3", minus_zero(builder, "cortex-m3", head), wanted, head)
+        say(seen is not None, "cortex-m3 with doubles in software that make zero negative is " + (f"seen: {seen}" if seen else "not seen"))
         swaps = list(pool.map(swap, exchanges(head)))
     unseen = [name for name, seen in swaps if seen is None]
     say(swaps and not unseen, f"armv7-linux with two parameters of one type exchanged: {len(swaps) - len(unseen)} of {len(swaps)} "

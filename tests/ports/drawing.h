@@ -206,6 +206,7 @@ static void draw_call(int with_table, int with_task, int with_receiver)
     drawn.selector = (uint16_t)(draw(4) == 0 ? draw_bits() : draw(2) ? 2 : 6);
     drawn.mask1 = (uint16_t)(draw_word() | (draw(8) == 0 ? 0 : 0x400));
     drawn.mask2 = (uint16_t)draw_word();
+    drawn.reference = draw(4) == 0 ? draw_bits() : draw(655);
     drawn.net = drawn.received;
     drawn.bytes = drawn.received;
     fill_room(draw(256));

@@ -1,7 +1,7 @@
 /* Runs the library's calls on one machine and writes all that they give to a stream, which is to be the same on every machine: the
- * known telegrams of document 01, each answer number, parameter error and rule of a table, the edges of pages, limits, lengths, tables,
- * buffers and lines, and random calls of each function of uss.h. It needs no C library. calls.h, which follows from uss.h, lends, calls
- * and writes.
+ * known telegrams of document 01, each answer number, parameter error and rule of a table, the edges of pages, limits, lengths,
+ * tables, buffers, lines and figures, and random calls of each function of uss.h. It needs no C library. calls.h, which follows from
+ * uss.h, lends, calls and writes.
  *
  * The stream is made of records: what it is (0 a check, else the call's place in uss.h), its length in four bytes, low first, and
  * its contents: of a check 0 or 1 and its name; of a call the fields of its answer, then for each slice that cannot be written
@@ -42,7 +42,7 @@ static struct {
     uss_words control, status, process;
     uint8_t task, index;
     uint16_t parameter, selector, mask1, mask2;
-    uint32_t value;
+    uint32_t value, reference;
     uss_receiver receiver;
     struct bytes table, received, net, bytes, reply, out, page;
     struct numbers values;
@@ -106,6 +106,7 @@ int driver(void)
     known_indexes();
     known_rules();
     known_lines();
+    known_figures();
     answer_numbers();
     parameter_errors();
     edges_of_setups();
@@ -120,6 +121,7 @@ int driver(void)
     edges_of_replies();
     edges_of_states();
     edges_of_lines();
+    edges_of_figures();
     for (seed = 1; seed <= SEEDS; seed++) {
         state = seed * 0x9E3779B9u;
         for (i = 0; i < DRAWS_PER_SEED; i++)

@@ -1,5 +1,5 @@
 /* A part of driver.c: the edges of set-ups, frames, buffers, tasks, pages, limits, tables, broadcasts, requests, replies, states of a
- * receiver and lines. */
+ * receiver, lines and figures. */
 
 /* ---- edges */
 
@@ -315,5 +315,19 @@ static void edges_of_lines(void)
             r = do_uss_receive_bytes(do_uss_pause(in_state(0)), page, i, room, 256);
             do_uss_receive_bytes(r.receiver, page + i, len - i, room, 256);
         }
+    }
+}
+
+/* The ends of a word at the ends of the reference, beside them and within. */
+static void edges_of_figures(void)
+{
+    static const uint16_t ends[8] = {0, 1, 0x3FFF, 0x4000, 0x7FFF, 0x8000, 0xC000, 0xFFFF};
+    static const uint32_t references[9] = {0, 1, 50, 60, 400, 649, 650, 651, 0xFFFFFFFFu};
+    uint32_t i, k;
+    for (i = 0; i < 8; i++) {
+        for (k = 0; k < 9; k++)
+            do_uss_show_hertz(ends[i], references[k]);
+        do_uss_show_percent(ends[i]);
+        do_uss_show_raw(ends[i]);
     }
 }

@@ -1,5 +1,5 @@
-"""The lines of docs/CHIPS.md, run as they stand there: the firmware by clang (the kit's, under the name that a reader has) and by
-GCC where it is here, and the listing by uss.wasm."""
+"""The lines of docs/CHIPS.md, run as they stand there: the firmware by clang (the kit's, under the name that a reader has) and, where
+its C library is here, by GCC, and the listing by uss.wasm."""
 import os
 import re
 import shutil
@@ -38,6 +38,12 @@ def run(text, path="", include=""):
     return done.stdout, done.stderr
 
 
+def newlib():
+    """Whether GCC for Cortex-M is here with its C library, which the page's lines take."""
+    gcc = shutil.which("arm-none-eabi-gcc")
+    return gcc and os.path.isabs(subprocess.run([gcc, "-print-file-name=nano.specs"], capture_output=True, text=True).stdout)
+
+
 def main():
     failed = False
 
@@ -51,7 +57,7 @@ def main():
             os.symlink(Kit().clang, os.path.join(tools, name))
         wrote, said = run(block("\nclang --target"), tools + ":", INCLUDE)
         say(REPLY in wrote, "docs/CHIPS.md: the firmware by clang answers K2 by K3", wrote + said)
-    if shutil.which("arm-none-eabi-gcc"):
+    if newlib():
         wrote, said = run(block("\narm-none-eabi-gcc"))
         say(REPLY in wrote, "docs/CHIPS.md: the firmware by GCC answers K2 by K3", wrote + said)
     wrote, said = run(block("node ports/example/list.js"))

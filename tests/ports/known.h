@@ -1,5 +1,5 @@
-/* A part of driver.c: the known telegrams of document 01, the index in plain tasks, lines for the receiver, each answer number, each
- * parameter error. */
+/* A part of driver.c: the known telegrams of document 01, the index in plain tasks, lines for the receiver, figures for a panel, each
+ * answer number, each parameter error. */
 
 /* ---- known telegrams: K1 to K12 of document 01 */
 
@@ -280,6 +280,48 @@ static void known_lines(void)
         page[i] = room[i];
     check("a false LGE, and the next is answered", is_received(r, 34, 16, 0) && serve(usual, 1, 1, r.length).number == USS_REPLIED
           && equal(room, k3, 16));
+}
+
+/* ---- figures for a panel */
+
+/* The bits of z / 16384, by whole numbers alone: sign, power of two of the leading digit, digits below it. */
+static uint64_t bits_over_16384(int32_t z)
+{
+    uint32_t size = z < 0 ? 0u - (uint32_t)z : (uint32_t)z, leading = 0;
+    uint64_t sign = z < 0 ? 1 : 0;
+    if (size == 0)
+        return 0;
+    while (size >> leading > 1)
+        leading++;
+    return sign << 63 | (uint64_t)(1023 + leading - 14) << 52 | (uint64_t)(size - (1u << leading)) << (52 - leading);
+}
+
+static int is_figure(uss_figure f, uint32_t number, uint32_t raw, uint64_t bits)
+{
+    return f.number == number && f.raw == raw && bits_of(f.value) == bits;
+}
+
+static void known_figures(void)
+{
+    static const uint16_t references[3] = {1, 50, 650};
+    int32_t word;
+    size_t i;
+    int holds = 1;
+
+    check("4000 is the reference", is_figure(do_uss_show_hertz(0x4000, 50), 0, 0, 0x4049000000000000u)
+          && is_figure(do_uss_show_percent(0x4000), 0, 0, 0x4059000000000000u));
+    check("-32768, -1 and 0", is_figure(do_uss_show_hertz(0x8000, 650), 0, 0, 0xC094500000000000u)
+          && is_figure(do_uss_show_percent(0xFFFF), 0, 0, 0xBF79000000000000u) && is_figure(do_uss_show_hertz(0, 650), 0, 0, 0));
+    check("no figure", is_figure(do_uss_show_hertz(0x4000, 0), USS_BAD_REFERENCE, 0, 0)
+          && is_figure(do_uss_show_hertz(0x4000, 65536 + 50), USS_BAD_REFERENCE, 0, 0));
+    SEEN(USS_BAD_REFERENCE, do_uss_show_hertz(0x4000, 651).number);
+    for (word = -32768; word < 32768; word++) {
+        for (i = 0; i < 3; i++)
+            holds &= is_figure(uss_show_hertz((uint16_t)word, references[i]), 0, 0, bits_over_16384(word * references[i]));
+        holds &= is_figure(uss_show_percent((uint16_t)word), 0, 0, bits_over_16384(word * 100));
+        holds &= is_figure(uss_show_raw((uint16_t)word), 0, (uint16_t)word, 0);
+    }
+    check("every word", holds);
 }
 
 /* ---- each answer number, each parameter error */

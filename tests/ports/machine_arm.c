@@ -59,11 +59,21 @@ static void guard(void)
 #endif
 }
 
+/* With hard float a double is moved through the float unit, which is off after a reset. */
+static void float_unit(void)
+{
+#ifdef __ARM_FP
+    REGISTER(0xE000ED88) |= 15 << 20; /* CPACR: full access */
+    __asm__ volatile("dsb\n isb" ::: "memory");
+#endif
+}
+
 static void start(void)
 {
     static const char name[] = "/dev/stdout";
     const uint32_t block[3] = {(uint32_t)name, 5, sizeof name - 1};
     out = ask(OPEN, block);
+    float_unit();
     guard();
     leave(driver() == 0 ? ENDED : FAULTED);
 }

@@ -1,5 +1,6 @@
 """How a driver is built for each target, and what runs it."""
 import os
+import shutil
 import subprocess
 import sys
 
@@ -18,7 +19,29 @@ BOARDS = {  # the emulator's board; Cortex-M0's has 16 KB of RAM, and is given m
     "cortex-m4f": ["mps2-an386"],
 }
 USER = {"riscv32": "qemu-riscv32", "armv7-linux": "qemu-arm", "aarch64-linux": "qemu-aarch64", "riscv64-linux": "qemu-riscv64"}
+# a firmware's own compiler: its name and what it is told
+GCC = {
+    "cortex-m0": ["arm-none-eabi-gcc", "-mcpu=cortex-m0", "-mthumb"],
+    "cortex-m3": ["arm-none-eabi-gcc", "-mcpu=cortex-m3", "-mthumb"],
+    "cortex-m4": ["arm-none-eabi-gcc", "-mcpu=cortex-m4", "-mthumb", "-mfloat-abi=soft"],
+    "cortex-m4f": ["arm-none-eabi-gcc", "-mcpu=cortex-m4", "-mthumb", "-mfloat-abi=hard", "-mfpu=fpv4-sp-d16"],
+    "riscv32": ["riscv64-unknown-elf-gcc", "-march=rv32imac", "-mabi=ilp32"],
+}
 TEST = os.path.join(ROOT, "target", "ports", "test")
+
+
+def libgcc(name):
+    """The library of a firmware's own compiler, doubles in software among it; none on Linux and in the browser."""
+    if name not in GCC:
+        return []
+    if shutil.which(GCC[name][0]) is None:
+        raise SystemExit(f"tests/ports: {GCC[name][0]} is missing: its library has the doubles of {name}")
+    return [subprocess.run([*GCC[name], "-print-libgcc-file-name"], capture_output=True, text=True, check=True).stdout.strip()]
+
+
+def own_runtime(name):
+    """What runtime.c is told: where the compiler's own library is linked, it stands in for nothing of it."""
+    return ["-DWITH_LIBGCC"] if name in GCC else []
 
 
 def machine_of(name):
@@ -39,11 +62,6 @@ def command(name, program):
     raise SystemExit(f"tests/ports: nothing here runs {name}")
 
 
-def tools():
-    """What must be on the machine, so that no target is left out."""
-    return sorted({command(name, "")[0] for name in TARGETS})
-
-
 class Builder:
     def __init__(self):
         self.kit = Kit()
@@ -59,7 +77,8 @@ class Builder:
 
     def objects(self, target, label="", more=()):
         """The driver's objects for a target, but for the library."""
-        return [self.compile(target, os.path.join(HERE, source), f"{target.name}{label}-{source[:-2]}.o", more)
+        words = [*more, *own_runtime(target.name)]
+        return [self.compile(target, os.path.join(HERE, source), f"{target.name}{label}-{source[:-2]}.o", words)
                 for source in ("driver.c", "runtime.c", machine_of(target.name))]
 
     def link(self, name, objects, library, out, script=os.path.join(HERE, "bare.ld")):
@@ -68,7 +87,7 @@ class Builder:
             words = ["--no-entry", "--import-memory", "--import-undefined", "--no-stack-first", "--global-base=65536"]
             self.kit.must("wasm-ld", [*words, *objects, "-o", out], TEST)
         elif name in BOARDS:
-            self.kit.must("ld.lld", ["-T", script, *objects, *library, "-o", out], TEST)
+            self.kit.must("ld.lld", ["-T", script, *objects, *library, *libgcc(name), "-o", out], TEST)
         else:
-            self.kit.must("ld.lld", ["-static", *objects, *library, "-o", out], TEST)
+            self.kit.must("ld.lld", ["-static", *objects, *library, *libgcc(name), "-o", out], TEST)
         return os.path.join(TEST, out)

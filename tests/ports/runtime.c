@@ -71,7 +71,7 @@ void *__aeabi_memclr4(void *to, size_t n)
 
 /* Where the compiler's own library is linked, these are its. */
 #ifndef WITH_LIBGCC
-#if defined(__arm__) || (defined(__riscv) && __riscv_xlen == 32)
+#if defined(__arm__)
 /* Long division, a bit at a time. */
 uint64_t divide64(uint64_t n, uint64_t d, uint64_t *rest)
 {
@@ -88,23 +88,6 @@ uint64_t divide64(uint64_t n, uint64_t d, uint64_t *rest)
     }
     *rest = left;
     return quotient;
-}
-#endif
-
-#if defined(__riscv) && __riscv_xlen == 32
-uint64_t __udivdi3(uint64_t n, uint64_t d)
-{
-    uint64_t rest;
-    return divide64(n, d, &rest);
-}
-#endif
-
-#if defined(__arm__)
-uint64_t __aeabi_llsr(uint64_t n, int by)
-{
-    while (by-- > 0)
-        n >>= 1;
-    return n;
 }
 
 /* Quotient in r0, rest in r1. */

@@ -36,6 +36,17 @@ static void put64(uint64_t number)
     put32((uint32_t)(number >> 32));
 }
 
+/* A double as its bits: -0 and +0 differ. */
+static uint64_t bits_of(double x)
+{
+    union {
+        double value;
+        uint64_t bits;
+    } both;
+    both.value = x;
+    return both.bits;
+}
+
 static void begin(uint8_t what, uint32_t len)
 {
     put8(what);

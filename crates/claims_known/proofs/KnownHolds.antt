@@ -6,7 +6,8 @@ use Rattle.frame.specs.Frame.{frameOf}
 use Rattle.address.specs.Address.{addressOf}
 use Rattle.setup.specs.SetupRules.{setupOk}
 use Rattle.entry.specs.Fields.{entryOf, countOf}
-use Rattle.limits.specs.Limits.{signedOf, numberOf, atMost, fitsIn, isWithin, entryOk}
+use Rattle.signs.specs.Signs.{signedOf}
+use Rattle.limits.specs.Limits.{numberOf, atMost, fitsIn, isWithin, entryOk}
 use Rattle.table.specs.Records.{entryAt, entriesFrom, entries, findFrom, countsOf}
 use Rattle.opening.specs.Rules.{risingFrom, eachOk, runOk, runsOk}
 use Rattle.opening.specs.Answers.{openingOf}

@@ -29,6 +29,7 @@ use Rattle.setup.proofs.area_count.Reads as setup-area-count
 use Rattle.setup.proofs.is_other_length.Reads as setup-is-other-length
 use Rattle.entry.proofs.entry_of.Reads as entry-entry-of
 use Rattle.entry.proofs.count_places.Reads as entry-count-places
+use Rattle.signs.proofs.signed_of.Reads as signs-signed-of
 use Rattle.limits.proofs.at_most.Reads as limits-at-most
 use Rattle.limits.proofs.within.Reads as limits-within
 use Rattle.limits.proofs.entry_ok.Reads as limits-entry-ok
@@ -36,6 +37,8 @@ use Rattle.table.proofs.record_of.Reads as table-record-of
 use Rattle.table.proofs.find.Reads as table-find
 use Rattle.opening.proofs.«open».Reads as opening-open
 use Rattle.table_check.proofs.check_table.Reads as table-check-check-table
+use Rattle.figure.proofs.show.Reads as figure-show
+use Rattle.host_figure.proofs.show.Reads as host-figure-show
 use Rattle.area.proofs.empty_area.Reads as area-empty-area
 use Rattle.area.proofs.read_area.Reads as area-read-area
 use Rattle.area.proofs.read_process.Reads as area-read-process
@@ -83,6 +86,9 @@ use Rattle.uss_c.proofs.uss_read_reply.Reads as uss-read-reply
 use Rattle.uss_c.proofs.uss_list.Reads as uss-list
 use Rattle.uss_c.proofs.uss_bcc.Reads as uss-bcc
 use Rattle.uss_c.proofs.uss_check_table.Reads as uss-check-table
+use Rattle.uss_c.proofs.uss_show_hertz.Reads as uss-show-hertz
+use Rattle.uss_c.proofs.uss_show_percent.Reads as uss-show-percent
+use Rattle.uss_c.proofs.uss_show_raw.Reads as uss-show-raw
 use Rattle.claims_results.specs.OneResult.{OneResult, OneExit}
 
 -- what is equal to the same definition is equal
@@ -146,6 +152,9 @@ entry-entry-of-one κs a r r′ s s′ = equal-through
 pub entry-count-places-one : OneResult entry-count-places.Post
 entry-count-places-one κs a r r′ s s′ = equal-through
 
+pub signs-signed-of-one : OneResult signs-signed-of.Post
+signs-signed-of-one κs a r r′ s s′ = equal-through
+
 pub limits-at-most-one : OneResult limits-at-most.Post
 limits-at-most-one κs a r r′ s s′ = equal-through
 
@@ -166,6 +175,12 @@ opening-open-one κs a r r′ s s′ = equal-through
 
 pub table-check-check-table-one : OneResult table-check-check-table.Post
 table-check-check-table-one κs a r r′ s s′ = equal-through
+
+pub figure-show-one : OneResult figure-show.Post
+figure-show-one κs a r r′ s s′ = equal-through
+
+pub host-figure-show-one : OneResult host-figure-show.Post
+host-figure-show-one κs a r r′ s s′ = equal-through
 
 pub area-empty-area-one : OneResult area-empty-area.Post
 area-empty-area-one κs a r r′ s s′ = equal-through
@@ -405,3 +420,12 @@ uss-bcc-one κs a r r′ s s′ = equal-through
 
 pub uss-check-table-one : OneResult uss-check-table.Post
 uss-check-table-one κs a r r′ s s′ = equal-through
+
+pub uss-show-hertz-one : OneResult uss-show-hertz.Post
+uss-show-hertz-one κs a r r′ s s′ = equal-through
+
+pub uss-show-percent-one : OneResult uss-show-percent.Post
+uss-show-percent-one κs a r r′ s s′ p p′ = equal-through (p 0) (p′ 0)
+
+pub uss-show-raw-one : OneResult uss-show-raw.Post
+uss-show-raw-one κs a r r′ s s′ p p′ = equal-through (p 0) (p′ 0)

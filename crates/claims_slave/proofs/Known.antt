@@ -7,7 +7,8 @@ use mathlib.Core.List.{List, [], _∷_, map}
 use lib.ListN.{replicate}
 use Rattle.setup.specs.SetupRules.{setupOk}
 use Rattle.entry.specs.Fields.{entryOf, countOf}
-use Rattle.limits.specs.Limits.{signedOf, numberOf, atMost, fitsIn, isWithin, entryOk}
+use Rattle.signs.specs.Signs.{signedOf}
+use Rattle.limits.specs.Limits.{numberOf, atMost, fitsIn, isWithin, entryOk}
 use Rattle.table.specs.Records.{entryAt, entriesFrom, entries, findFrom, countsOf}
 use Rattle.bcc.specs.Bcc.{xorAll}
 use Rattle.frame.specs.Frame.{frameOf}

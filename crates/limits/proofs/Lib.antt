@@ -1,4 +1,3 @@
 -- Laws of limits.
-pub mod SignsLaws
 pub mod LimitsLaws
 pub mod FitLaws

@@ -1,14 +1,12 @@
--- Laws of a record's limits, and worked numbers. Assumes nothing.
+-- Laws of a record's limits. Assumes nothing.
 use Prim.Native.Nat.{ℕ, _≤_}
-use mathlib.Core.Path.{_≡_, refl}
-use mathlib.Core.List.{[], _∷_, map}
-use mathlib.Core.Bool.{true, false, _&&_}
+use mathlib.Core.Path.{_≡_}
+use mathlib.Core.Bool.{true, _&&_}
 use lib.Dec.{eqb, leb}
-use lib.IntN.{pos, negsuc}
 use borrow.Author.Tests.{le-leb, eq-eqb, leb-true, eqb-true}
 use Rattle.rows.proofs.BoolLaws.{and-left, and-right, and-both}
 use Rattle.entry.specs.declared.Entry.{Entry}
-use Rattle.limits.specs.Limits.{signedOf, atMost, fitsIn, isWithin, limitsOk, entryOk}
+use Rattle.limits.specs.Limits.{atMost, fitsIn, isWithin, limitsOk, entryOk}
 
 -- the facts of a record that keeps the rules, both ways
 pub record Ruled (e : Entry) : Type 0 where
@@ -55,12 +53,3 @@ within-fits e v h =
     let a = fitsIn (e .double) v in
     let b = atMost (e .double) (e .signed) (e .minimum) v in
     and-left a b (and-left (a && b) (atMost (e .double) (e .signed) v (e .maximum)) h)
-
--- -100, -1 and the ends of both widths
-pub signed-words : map (signedOf false) (0xff9c ∷ 0xffff ∷ 0 ∷ 0x7fff ∷ 0x8000 ∷ []) ≡ negsuc 99 ∷ negsuc 0 ∷ pos 0 ∷ pos 32767 ∷ negsuc 32767 ∷ []
-unfolding signedOf
-signed-words = refl
-
-pub signed-doubles : map (signedOf true) (0xffff_ff9c ∷ 0xffff_ffff ∷ 0 ∷ 0x7fff_ffff ∷ 0x8000_0000 ∷ []) ≡ negsuc 99 ∷ negsuc 0 ∷ pos 0 ∷ pos 2147483647 ∷ negsuc 2147483647 ∷ []
-unfolding signedOf
-signed-doubles = refl

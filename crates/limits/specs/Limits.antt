@@ -1,5 +1,4 @@
 -- The limits of a record and the rules that it can break by itself (document 01, Parameter table).
---     signedOf double x              x as a signed number, two's complement; a word by its low 16 bits
 --     numberOf double signed x       the number that x stands for in a parameter of that kind
 --     atMost double signed a b       the one comparison of all four kinds
 --     fitsIn double x                a word's upper half is zero
@@ -11,14 +10,8 @@ use mathlib.Core.Bool.{Bool, true, false, _&&_}
 use lib.Dec.{leb, eqb}
 use lib.IntN.{ℤ, pos}
 use lib.Signed.{leZ}
-use mir.Syntax.{w16, w32}
-use mir.Val.{toZ}
+use Rattle.signs.specs.Signs.{signedOf}
 use Rattle.entry.specs.declared.Entry.{Entry}
-
--- `toZ w16 x` is x up to 32767, x - 65536 from there on; `toZ w32` the same of 32 bits
-unfoldable pub signedOf : Bool → ℕ → ℤ
-signedOf true x = toZ w32 x
-signedOf false x = toZ w16 (x % 65536)
 
 unfoldable pub numberOf : Bool → Bool → ℕ → ℤ
 numberOf double true x = signedOf double x

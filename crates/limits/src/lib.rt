@@ -1,27 +1,14 @@
 // The limits of a record, and the rules that it can break by itself (document 01, Parameter table).
 ghost use mathlib.Core.Path.{_≡_};
-ghost use Rattle.limits.specs.Limits.{signedOf, atMost, fitsIn, isWithin, entryOk};
+ghost use Rattle.limits.specs.Limits.{atMost, fitsIn, isWithin, entryOk};
 use entry::Entry;
-
-// A word or a double word as a signed number, two's complement. Of a word, the sign bit is flipped and its weight taken off.
-fn to_signed(double: bool, x: u32) -> i32
-    ensures { λ r. ⌜ r ≡ signedOf double x ⌝ }
-{
-    if double {
-        if x < 2147483648 {
-            return x as i32;
-        }
-        return -1 - ((4294967295 - x) as i32);
-    }
-    ((x % 65536 ^ 32768) as i32) - 32768
-}
 
 // Whether a is at most b, as the parameter's kind is compared.
 pub fn at_most(double: bool, signed: bool, a: u32, b: u32) -> bool
     ensures { λ r. ⌜ r ≡ atMost double signed a b ⌝ }
 {
     if signed {
-        return to_signed(double, a) <= to_signed(double, b);
+        return signs::signed_of(double, a) <= signs::signed_of(double, b);
     }
     if double {
         return a <= b;

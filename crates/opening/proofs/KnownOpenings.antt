@@ -4,7 +4,8 @@ use mathlib.Core.Path.{_≡_, refl}
 use mathlib.Core.List.{List, [], _∷_, map}
 use Rattle.setup.specs.SetupRules.{setupOk}
 use Rattle.entry.specs.Fields.{entryOf, countOf}
-use Rattle.limits.specs.Limits.{signedOf, numberOf, atMost, fitsIn, isWithin, entryOk}
+use Rattle.signs.specs.Signs.{signedOf}
+use Rattle.limits.specs.Limits.{numberOf, atMost, fitsIn, isWithin, entryOk}
 use Rattle.table.specs.Records.{entryAt, entriesFrom, entries, countsOf}
 use Rattle.opening.specs.declared.Opening.the-variants.{Passed, Closed}
 use Rattle.slave_answers.specs.declared.OpeningFault.the-variants.{BadSetup, BadTable, BadValues, ShortBuffer}

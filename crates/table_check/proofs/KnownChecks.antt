@@ -3,7 +3,8 @@ use Prim.Native.Nat.{ℕ}
 use mathlib.Core.Path.{_≡_, refl}
 use mathlib.Core.List.{List, [], _∷_, _++_, map}
 use Rattle.entry.specs.Fields.{entryOf, countOf}
-use Rattle.limits.specs.Limits.{signedOf, numberOf, atMost, fitsIn, isWithin}
+use Rattle.signs.specs.Signs.{signedOf}
+use Rattle.limits.specs.Limits.{numberOf, atMost, fitsIn, isWithin}
 use Rattle.table.specs.Records.{entryAt, entriesFrom, entries, countsOf}
 use Rattle.table_check.specs.declared.TableCheck.{TableCheck}
 use Rattle.table_check.specs.Checks.{told, orElse, recordRule, recordsCheck, runCheck, runsCheck, tableCheckOf}

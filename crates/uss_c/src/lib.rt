@@ -11,9 +11,14 @@ ghost use Rattle.master.specs.Build.{builtOf};
 ghost use Rattle.reply.specs.Reply.{readOf};
 ghost use Rattle.listing.specs.Listing.{listedOf};
 ghost use Rattle.table_check.specs.Checks.{tableCheckOf};
+ghost use Rattle.figure.specs.declared.Unit.the-variants.{Hertz, Percent, Raw};
+ghost use Rattle.figure.specs.Figures.{figureOf};
 ghost use Rattle.host_slave.specs.Host.{SlaveLeaves};
 ghost use Rattle.host_master.specs.Host.{BuildLeaves};
 ghost use Rattle.host_reply.specs.Host.{hostReply};
+ghost use Rattle.host_figure.specs.Host.{hostFigure};
+use figure::Unit;
+use host_figure::HostFigure;
 use host_master::HostBuilt;
 use host_reply::HostReply;
 use host_slave::HostAnswer;
@@ -131,4 +136,25 @@ pub extern "C" fn uss_check_table(table: &[u8], values: &[u32]) -> TableCheck
     ensures { λ r. ⌜ r ≡ tableCheckOf (now (table .entry)) (now (values .entry)) ⌝ }
 {
     table_check::check_table(table, values)
+}
+
+#[no_mangle]
+pub extern "C" fn uss_show_hertz(word: u16, reference: u32) -> HostFigure
+    ensures { λ r. ⌜ r ≡ hostFigure (figureOf Hertz word reference) ⌝ }
+{
+    host_figure::show(Unit::Hertz, word, reference)
+}
+
+#[no_mangle]
+pub extern "C" fn uss_show_percent(word: u16) -> HostFigure
+    ensures { λ r. ⌜ ((reference : ℕ) → r ≡ hostFigure (figureOf Percent word reference)) ⌝ }
+{
+    host_figure::show(Unit::Percent, word, 0)
+}
+
+#[no_mangle]
+pub extern "C" fn uss_show_raw(word: u16) -> HostFigure
+    ensures { λ r. ⌜ ((reference : ℕ) → r ≡ hostFigure (figureOf Raw word reference)) ⌝ }
+{
+    host_figure::show(Unit::Raw, word, 0)
 }

@@ -1,26 +1,26 @@
 -- `limits::at_most` meets its contract. Assumes nothing.
 use Rattle.limits.specs.Limits.{numberOf, atMost}
-use Rattle.limits.proofs.SignsLaws.{compared}
+use Rattle.signs.proofs.SignsLaws.{compared}
 use borrow.Author.Needs.{needs}
 use Rattle.limits.proofs.at_most.Statement.{statement}
 use Rattle.limits.proofs.at_most.Tie as tie
 use Rattle.limits.proofs.at_most.Reads as reads
 use Rattle.limits.proofs.at_most.Lts as lts
-use Rattle.limits.proofs.to_signed.Reads as to-signed-reads
+use Rattle.signs.proofs.signed_of.Reads as signed-of-reads
 
-to-signed-requires : tie.Need-to-signed-requires
-to-signed-requires c κs = search needs
+signed-of-requires : tie.Need-signed-of-requires
+signed-of-requires c κs = search needs
 
-to-signed-requires-2 : tie.Need-to-signed-requires-2
-to-signed-requires-2 c κs = search needs
+signed-of-requires-2 : tie.Need-signed-of-requires-2
+signed-of-requires-2 c κs = search needs
 
 returns : tie.Need-returns
 unfolding atMost numberOf
 returns c =
-    let after-to-signed : tie.After-to-signed = search in
+    let after-signed-of : tie.After-signed-of = search in
     let then1 : tie.Then1 = search in
     rw (then1 .if1 .taken)
-    (compared _ _ _ _ (search needs) (search needs) (after-to-signed .to-signed .ensures) (c .to-signed2 .ensures))
+    (compared _ _ _ _ (search needs) (search needs) (after-signed-of .signed-of .ensures) (c .signed-of2 .ensures))
 
 returns-2 : tie.Need-returns-2
 unfolding atMost numberOf
@@ -36,4 +36,4 @@ returns-3 c =
 
 pub at-most-spec : {M : Type 1} → statement M
 at-most-spec =
-    tie.close (tie.spec to-signed-requires to-signed-requires-2 returns returns-2 returns-3)
+    tie.close (tie.spec signed-of-requires signed-of-requires-2 returns returns-2 returns-3)

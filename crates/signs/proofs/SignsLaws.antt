@@ -1,18 +1,20 @@
 -- Two's complement: how the code reads a double word, by flipping all bits of the upper half, and a word, by flipping its
--- sign bit. Assumes nothing.
-use Prim.Native.Nat.{ℕ, zero, suc, _+_, _-_, _^_, _<_, _≤_}
+-- sign bit; how large a signed word is; worked numbers. Assumes nothing.
+use Prim.Native.Nat.{ℕ, zero, suc, _+_, _-_, _%_, _^_, _<_, _≤_}
 use mathlib.Core.Path.{_≡_, refl, sym, ap, _∙_}
 use mathlib.Core.Bool.{Bool, true, false}
+use mathlib.Core.List.{[], _∷_, map}
 use native.Mathlib.Nat.{zero-add}
 use native.Mathlib.Omega.{arith}
 use borrow.Author.Tests.{lt-ltb, le-ltb, ltb-true, ltb-false}
 use lib.Dec.{ltb, lit<}
 use lib.Bits.{bitXor, xor-block, xor-zero-r, xor-lt}
-use lib.IntN.{ℤ, pos, negsuc, _-ℤ_}
-use lib.Signed.{leZ}
+use lib.IntN.{ℤ, pos, negsuc, _-ℤ_, natAbs}
+use lib.Signed.{mag, leZ, natAbs-le}
 use mir.Syntax.{Width, w16, w32}
 use mir.Val.{toZ, ofZ, bits, hbits, SFits}
 use mir.ValLaws.{toZ-pos, toZ-ofZ}
+use Rattle.signs.specs.Signs.{signedOf}
 
 -- the upper half
 toZ-high : (w : Width) (x : ℕ) → 2 ^ hbits w ≤ x → toZ w x ≡ negsuc (2 ^ bits w - suc x)
@@ -62,12 +64,15 @@ module _ (x : ℕ) (h : x < 65536) where
           let s : 32768 + (x - 32768) ≡ x = omega arith in
           rw s at (less-weight-high (x - 32768) (omega arith))
 
-  word-fits : SFits w32 (toZ w16 x)
-  word-fits = go (ltb x 32768) refl
+  word-mag : mag (toZ w16 x) < 32768
+  word-mag = go (ltb x 32768) refl
     where
-      go : (b : Bool) → ltb x 32768 ≡ b → SFits w32 (toZ w16 x)
-      go true e = let l = ltb-true x 32768 e in rw (toZ-pos w16 x l) (record { sfits = omega arith })
-      go false e = rw (toZ-high w16 x (ltb-false x 32768 e)) (record { sfits = omega arith })
+      go : (b : Bool) → ltb x 32768 ≡ b → mag (toZ w16 x) < 32768
+      go true e = let l = ltb-true x 32768 e in rw (toZ-pos w16 x l) l
+      go false e = let g = ltb-false x 32768 e in rw (toZ-high w16 x g) (omega arith)
+
+  word-fits : SFits w32 (toZ w16 x)
+  word-fits = record { sfits = omega (arith, word-mag) }
 
   pub flip-word-fits : SFits w32 (pos (bitXor x 32768))
   flip-word-fits = record { sfits = omega (arith, xor-lt 16 x 32768 h (lit< tt)) }
@@ -78,6 +83,20 @@ module _ (x : ℕ) (h : x < 65536) where
   pub word-back : toZ w32 (ofZ w32 (toZ w32 (bitXor x 32768) -ℤ pos 32768)) ≡ toZ w16 x
   word-back = toZ-ofZ w32 (toZ w32 (bitXor x 32768) -ℤ pos 32768) word-fits-less ∙ word-is
 
+-- how large a signed word can be: -32768 is the largest in size
+pub word-small : (x : ℕ) → natAbs (signedOf false x) ≤ 32768
+unfolding signedOf
+word-small x = natAbs-le (toZ w16 (x % 65536)) (word-mag (x % 65536) (omega arith))
+
 -- a comparison of two results of calls
 pub compared : (x y x′ y′ : ℤ) → SFits w32 x → SFits w32 y → x ≡ x′ → y ≡ y′ → leZ (toZ w32 (ofZ w32 x)) (toZ w32 (ofZ w32 y)) ≡ leZ x′ y′
 compared x y x′ y′ fx fy p q = rw (toZ-ofZ w32 x fx, toZ-ofZ w32 y fy, p, q)
+
+-- -100, -1 and the ends of both widths
+pub signed-words : map (signedOf false) (0xff9c ∷ 0xffff ∷ 0 ∷ 0x7fff ∷ 0x8000 ∷ []) ≡ negsuc 99 ∷ negsuc 0 ∷ pos 0 ∷ pos 32767 ∷ negsuc 32767 ∷ []
+unfolding signedOf
+signed-words = refl
+
+pub signed-doubles : map (signedOf true) (0xffff_ff9c ∷ 0xffff_ffff ∷ 0 ∷ 0x7fff_ffff ∷ 0x8000_0000 ∷ []) ≡ negsuc 99 ∷ negsuc 0 ∷ pos 0 ∷ pos 2147483647 ∷ negsuc 2147483647 ∷ []
+unfolding signedOf
+signed-doubles = refl

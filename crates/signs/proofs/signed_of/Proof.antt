@@ -1,14 +1,14 @@
--- `limits::to_signed` meets its contract. Assumes nothing.
+-- `signs::signed_of` meets its contract. Assumes nothing.
 use Prim.Native.Nat.{_-_, _%_}
 use native.Mathlib.Omega.{arith}
 use mir.Syntax.{w32}
-use Rattle.limits.specs.Limits.{signedOf}
-use Rattle.limits.proofs.SignsLaws.{flip-fits, flip-is, flip-word-fits, word-fits-less, word-back}
+use Rattle.signs.specs.Signs.{signedOf}
+use Rattle.signs.proofs.SignsLaws.{flip-fits, flip-is, flip-word-fits, word-fits-less, word-back}
 use borrow.Author.Needs.{needs}
-use Rattle.limits.proofs.to_signed.Statement.{statement}
-use Rattle.limits.proofs.to_signed.Tie as tie
-use Rattle.limits.proofs.to_signed.Reads as reads
-use Rattle.limits.proofs.to_signed.Lts as lts
+use Rattle.signs.proofs.signed_of.Statement.{statement}
+use Rattle.signs.proofs.signed_of.Tie as tie
+use Rattle.signs.proofs.signed_of.Reads as reads
+use Rattle.signs.proofs.signed_of.Lts as lts
 
 cast-result : tie.Need-cast-result
 cast-result c = search needs
@@ -54,8 +54,8 @@ returns-3 c =
     let start : tie.Start = search in
     rw (c .if1 .left) (word-back (start .args .x % 65536) (omega arith))
 
-pub to-signed-spec : {M : Type 1} → statement M
-to-signed-spec =
+pub signed-of-spec : {M : Type 1} → statement M
+signed-of-spec =
     tie.close
     (tie.spec
     cast-result

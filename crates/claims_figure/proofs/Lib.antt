@@ -1,0 +1,3 @@
+-- Figures are exact.
+pub mod FigureExact
+pub mod KnownFigures

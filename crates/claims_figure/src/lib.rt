@@ -1,0 +1,1 @@
+// That figures are exact, as theorems about their definition. This crate has no code of its own.

@@ -1,0 +1,2 @@
+-- Laws of a word's products and of the double.
+pub mod ScaleLaws

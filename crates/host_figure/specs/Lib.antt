@@ -1,0 +1,2 @@
+-- What a showing returns to a host.
+pub mod Host

@@ -1,0 +1,2 @@
+-- Laws of signed numbers.
+pub mod SignsLaws

@@ -1,0 +1,2 @@
+-- Signed numbers, two's complement.
+pub mod Signs
