@@ -20,6 +20,7 @@
 
 #ifndef SLAVE
 #define SLAVE uss_slave
+#define SLAVE_LISTED uss_slave_listed
 #define BUILD_TASK uss_build_task
 #define READ_REPLY uss_read_reply
 #define BCC uss_bcc
@@ -34,7 +35,7 @@
 
 /* ---- a call with all it is lent and all it leaves */
 
-enum call { CALL_SLAVE, CALL_BUILD, CALL_READ, CALL_BCC, CALL_RECEIVE, CALL_RECEIVE_BYTES, CALL_PAUSE };
+enum call { CALL_SLAVE, CALL_SLAVE_LISTED, CALL_BUILD, CALL_READ, CALL_BCC, CALL_RECEIVE, CALL_RECEIVE_BYTES, CALL_PAUSE };
 
 struct input {
     enum call call;
@@ -43,6 +44,8 @@ struct input {
     size_t table_len;
     uint32_t *values;
     size_t value_count;
+    const uint16_t *places;
+    size_t place_count;
     uss_words control, words; /* words: status of the slave, process words of the master */
     const uint8_t *telegram; /* of the receiver the bytes */
     size_t telegram_len;
@@ -69,6 +72,8 @@ union output {
 struct calls {
     uss_answer (*slave)(uss_setup, const uint8_t *, size_t, uint32_t *, size_t, uss_words, uss_words, const uint8_t *, size_t,
                         uint8_t *, size_t);
+    uss_answer (*slave_listed)(uss_setup, const uint8_t *, size_t, uint32_t *, size_t, const uint16_t *, size_t, uss_words, uss_words,
+                               const uint8_t *, size_t, uint8_t *, size_t);
     uss_built (*build_task)(uss_setup, uint8_t, uint16_t, uint8_t, uint32_t, uss_words, uint8_t *, size_t);
     uss_reply (*read_reply)(uss_setup, uint8_t, uint16_t, uint8_t, uint32_t, uss_words, const uint8_t *, size_t);
     uint8_t (*bcc)(const uint8_t *, size_t);
@@ -77,9 +82,9 @@ struct calls {
     uss_receiver (*pause)(uss_receiver);
 };
 
-struct calls tested = {SLAVE, BUILD_TASK, READ_REPLY, BCC, RECEIVE, RECEIVE_BYTES, PAUSE};
-struct calls library = {uss_slave, uss_build_task, uss_read_reply, uss_bcc, uss_receive, uss_receive_bytes, uss_pause};
-struct calls nothing = {nothing_slave, nothing_build_task, nothing_read_reply, nothing_bcc,
+struct calls tested = {SLAVE, SLAVE_LISTED, BUILD_TASK, READ_REPLY, BCC, RECEIVE, RECEIVE_BYTES, PAUSE};
+struct calls library = {uss_slave, uss_slave_listed, uss_build_task, uss_read_reply, uss_bcc, uss_receive, uss_receive_bytes, uss_pause};
+struct calls nothing = {nothing_slave, nothing_slave_listed, nothing_build_task, nothing_read_reply, nothing_bcc,
                         nothing_receive, nothing_receive_bytes, nothing_pause};
 
 static union output call(const struct calls *c, const struct input *in)
@@ -90,6 +95,10 @@ static union output call(const struct calls *c, const struct input *in)
     case CALL_SLAVE:
         o.answer = c->slave(in->setup, in->table, in->table_len, in->values, in->value_count, in->control, in->words,
                             in->telegram, in->telegram_len, in->out, in->out_len);
+        break;
+    case CALL_SLAVE_LISTED:
+        o.answer = c->slave_listed(in->setup, in->table, in->table_len, in->values, in->value_count, in->places, in->place_count,
+                                   in->control, in->words, in->telegram, in->telegram_len, in->out, in->out_len);
         break;
     case CALL_BUILD:
         o.built = c->build_task(in->setup, in->task, in->parameter, in->index, in->value, in->words, in->out, in->out_len);
@@ -114,11 +123,14 @@ static union output call(const struct calls *c, const struct input *in)
     return o;
 }
 
-/* The slave reads table, values and telegram, the receiver items or bytes, the others a telegram alone. */
+/* The slave reads table, values, list and telegram, the receiver items or bytes, the others a telegram alone. */
 static uint32_t call_floor(const struct input *in)
 {
     if (in->call == CALL_SLAVE)
         return floor_slave(in->table, in->table_len, in->values, in->value_count, in->telegram, in->telegram_len);
+    if (in->call == CALL_SLAVE_LISTED)
+        return floor_slave_listed(in->table, in->table_len, in->values, in->value_count, in->places, in->place_count, in->telegram,
+                                  in->telegram_len);
     if (in->call == CALL_RECEIVE)
         return floor_items(in->items, in->item_count);
     return floor_bcc(in->telegram, in->telegram_len);
@@ -160,6 +172,17 @@ static size_t make_table(uint8_t *table, uint32_t *values, uint32_t records, uin
     return count;
 }
 
+/* The places of the first records of a table, and one behind them. */
+static void make_places(uint16_t *places, const uint8_t *table, uint32_t records)
+{
+    uint32_t k, elements, place = 0;
+    for (k = 0; k <= records; k++) {
+        places[k] = (uint16_t)place;
+        elements = k < records ? (uint32_t)(table[12 * k + 2] & 0x3F) << 2 | table[12 * k + 3] >> 6 : 0;
+        place += elements == 0 ? 1 : elements;
+    }
+}
+
 /* ---- rows */
 
 enum telegram { ASKED, BAD, MIRROR, BROADCAST, NOISE };
@@ -189,6 +212,9 @@ static const struct row rows[] = {
     {"mirror, 256 bytes", CALL_SLAVE, 1, 0, MIRROR, USS_READ, 0, 256, 0, 0},
     {"broadcast", CALL_SLAVE, 1, 0, BROADCAST, 0, 0, 16, 0, 0},
     {"unknown number", CALL_SLAVE, 1, 0, ASKED, USS_READ, 1, 16, 0, 0},
+    {"read, 1 record, list", CALL_SLAVE_LISTED, 1, 0, ASKED, USS_READ, 0, 16, 0, 0},
+    {"read, 512 records, list", CALL_SLAVE_LISTED, 512, 0, ASKED, USS_READ, 0, 16, 0, 0},
+    {"read, 512 records, 4096 values, list", CALL_SLAVE_LISTED, 512, 8, ASKED, USS_READ_ELEMENT, 0, 16, 0, 0},
     {"master build", CALL_BUILD, 0, 0, ASKED, USS_READ, 1082, 16, 0, 0},
     {"reply read", CALL_READ, 0, 0, ASKED, USS_READ, 1082, 16, 0, 0},
     {"BCC of 256 bytes", CALL_BCC, 0, 0, BAD, 0, 0, 256, 0, 0},
@@ -218,7 +244,7 @@ static const struct row rows[] = {
 #define ROWS (sizeof rows / sizeof rows[0])
 
 static uint8_t table[12 * MOST_RECORDS], telegram[256], out[256];
-static uint16_t items[257];
+static uint16_t items[257], places[MOST_RECORDS + 2];
 static uint32_t values[MOST_VALUES];
 static const uss_setup setup = {5, 4, 2};
 
@@ -293,6 +319,9 @@ static struct input prepare(const struct row *r)
     in.table_len = 12 * r->records;
     in.values = values;
     in.value_count = make_table(table, values, r->records, r->elements);
+    make_places(places, table, r->records);
+    in.places = places;
+    in.place_count = r->call == CALL_SLAVE_LISTED ? r->records : 0;
     in.control = control;
     in.words = status;
     in.telegram = telegram;
@@ -319,7 +348,7 @@ static uint32_t draw(uint32_t below)
 /* A copy of `len` bytes that ends where memory ends, one for each `which`; NULL of none. */
 static void *lent(unsigned which, const void *bytes, size_t len)
 {
-    static uint8_t *blocks[5];
+    static uint8_t *blocks[6];
     size_t size = 32768;
     if (len == 0)
         return NULL;
@@ -354,6 +383,7 @@ static int differ(const struct input *given)
     in.telegram = lent(2, given->telegram, in.telegram_len);
     in.out = lent(3, given->out, in.out_len);
     in.items = lent(4, given->items, sizeof *in.items * in.item_count);
+    in.places = lent(5, given->places, sizeof *in.places * in.place_count);
     got = call(&tested, &in);
     keep(after, in.values, values_len);
     keep(out_after, in.out, in.out_len);
@@ -470,6 +500,19 @@ static uint32_t draw_table(struct input *in, uint8_t *t, uint32_t *v)
     else if (draw(40) == 0 && in->value_count > 0)
         in->value_count--;
     return asked;
+}
+
+/* The list of a table, right but for chance damage. */
+static void draw_places(struct input *in, uint16_t *list)
+{
+    uint32_t records = (uint32_t)(in->table_len / 12), k;
+    make_places(list, in->table, records);
+    in->place_count = draw(30) == 0 ? draw(records + 2) : records;
+    if (records > 0 && draw(12) == 0)
+        list[draw(3) == 0 ? 0 : draw(2) ? records - 1 : draw(records)] ^= (uint16_t)(draw(2) ? 1u : 1u << draw(16));
+    if (draw(60) == 0)
+        for (k = 0; k < records; k++)
+            list[k] = (uint16_t)draw(65536);
 }
 
 /* A telegram to the set-up, good but for chance damage. */
@@ -625,6 +668,7 @@ static int compare_receiver(void)
 static int compare(void)
 {
     static uint8_t t[12 * (MOST_RECORDS + 2)], page[300], room[300];
+    static uint16_t list[MOST_RECORDS + 4];
     static uint32_t v[MOST_VALUES + 300 + 4000];
     uint32_t given[40] = {0}, i;
     int bad = 0;
@@ -647,6 +691,11 @@ static int compare(void)
         in.words = draw_words(draw(40) == 0 ? 4 : in.setup.pzd);
         memset(room, (int)draw(256), sizeof room);
         asked = draw_table(&in, t, v);
+        in.places = list;
+        if (in.call == CALL_SLAVE && i % 2) {
+            in.call = CALL_SLAVE_LISTED;
+            draw_places(&in, list);
+        }
         in.task = (uint8_t)(draw(20) == 0 ? draw(256) : draw(15));
         in.parameter = (uint16_t)(in.task == 0 && draw(5) ? 0 : draw(30) == 0 ? draw(65536) : draw(32001));
         in.index = (uint8_t)(in.task == 0 && draw(5) ? 0 : draw(8) == 0 ? draw(256) : draw(255));

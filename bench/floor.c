@@ -29,6 +29,12 @@ uint32_t floor_items(const uint16_t *items, size_t item_count)
     return x;
 }
 
+uint32_t floor_slave_listed(const uint8_t *table, size_t table_len, const uint32_t *values, size_t value_count,
+                            const uint16_t *places, size_t place_count, const uint8_t *telegram, size_t telegram_len)
+{
+    return floor_slave(table, table_len, values, value_count, telegram, telegram_len) ^ floor_items(places, place_count);
+}
+
 uss_answer nothing_slave(uss_setup setup, const uint8_t *table, size_t table_len, uint32_t *values, size_t value_count,
                          uss_words control, uss_words status, const uint8_t *received, size_t received_len,
                          uint8_t *reply, size_t reply_len)
@@ -36,6 +42,16 @@ uss_answer nothing_slave(uss_setup setup, const uint8_t *table, size_t table_len
     uss_answer none = {0, 0, {0, 0, 0, 0}};
     (void)setup, (void)table, (void)table_len, (void)values, (void)value_count, (void)control, (void)status;
     (void)received, (void)received_len, (void)reply, (void)reply_len;
+    return none;
+}
+
+uss_answer nothing_slave_listed(uss_setup setup, const uint8_t *table, size_t table_len, uint32_t *values, size_t value_count,
+                                const uint16_t *places, size_t place_count, uss_words control, uss_words status,
+                                const uint8_t *received, size_t received_len, uint8_t *reply, size_t reply_len)
+{
+    uss_answer none = {0, 0, {0, 0, 0, 0}};
+    (void)setup, (void)table, (void)table_len, (void)values, (void)value_count, (void)places, (void)place_count, (void)control;
+    (void)status, (void)received, (void)received_len, (void)reply, (void)reply_len;
     return none;
 }
 

@@ -1,4 +1,5 @@
-/* A careful slave, master and receiver in C99 (document 01, W-201), with few instructions as its one aim beside being right.
+/* A careful slave, master and receiver in C99 (document 01, W-201, W-205), with few instructions as its one aim beside being right.
+ * Compiled with LISTED it is the slave with a list and nothing else, so that neither slave is longer for the other.
  *
  * What makes it short:
  *   - A record's head is one number. Numbers rise strictly just when each head is above the head before it with every bit
@@ -8,10 +9,14 @@
  *   - Each record needs a place. What is left over for arrays is known from the counts, so a record without array asks for
  *     no room.
  *   - The search goes by halves, since the numbers of a good table rise. Only a table with arrays needs a sum to find a
- *     record's first place.
+ *     record's first place, and where there is a list none does. A list is compared with the heads, one after the other; where
+ *     there are no arrays, with 0, 1, 2 and so on.
  *   - The receiver goes run by run. Disarmed it looks for a pause alone; inside a telegram it knows before the first byte where
  *     the bytes end at the latest, and of a byte asks only whether it is a pause. Bytes without pauses it moves as they are.
  */
+#ifdef LISTED
+#define peer_bcc listed_bcc
+#endif
 #include "peer.h"
 
 #include <string.h>
@@ -404,6 +409,27 @@ static const uint8_t *find(uint32_t pke_ind, const uint8_t *table, size_t record
     return get32(table) >> 17 == number ? table : end;
 }
 
+#ifdef LISTED
+/* Whether a list has the first place of each record of a good table: 25 where it has not. */
+static int list_ok(const uint8_t *table, size_t records, size_t value_count, const uint16_t *places, size_t place_count)
+{
+    size_t place = 0, k;
+    uint32_t other = 0;
+    if (place_count != records)
+        return 0;
+    if (value_count == records) { /* without a way out, this can be compiled to vectors */
+        for (k = 0; k < records; k++)
+            other |= places[k] ^ (uint32_t)k;
+        return other == 0;
+    }
+    for (k = 0; k < records; k++) {
+        if (places[k] != place)
+            return 0;
+        place += places_of(get32(table + k * RECORD));
+    }
+    return 1;
+}
+#else
 /* The first place of a record: the sum of the places before it. */
 static size_t first_place(const uint8_t *table, const uint8_t *record, int no_arrays)
 {
@@ -414,6 +440,7 @@ static size_t first_place(const uint8_t *table, const uint8_t *record, int no_ar
         place += places_of(get32(table));
     return place;
 }
+#endif
 
 /* What a reply's area says: PKE, IND and the value. */
 struct said {
@@ -545,9 +572,15 @@ static uint64_t command(uint64_t control, const uint8_t *t, const uint8_t *proce
     return (control & ~mask) | (words & mask);
 }
 
+#ifdef LISTED
+uss_answer peer_slave_listed(uss_setup setup, const uint8_t *table, size_t table_len, uint32_t *values, size_t value_count,
+                             const uint16_t *places, size_t place_count, uss_words control_words, uss_words status,
+                             const uint8_t *received, size_t received_len, uint8_t *reply, size_t reply_len)
+#else
 uss_answer peer_slave(uss_setup setup, const uint8_t *table, size_t table_len, uint32_t *values, size_t value_count,
                       uss_words control_words, uss_words status, const uint8_t *received, size_t received_len,
                       uint8_t *reply, size_t reply_len)
+#endif
 {
     size_t records = table_len / RECORD;
     const uint8_t *end = table_len == 0 ? table : table + table_len, *process; /* a table of none may be NULL */
@@ -563,6 +596,10 @@ uss_answer peer_slave(uss_setup setup, const uint8_t *table, size_t table_len, u
     opening = content_fault(table, end, values, value_count, records);
     if (opening != 0)
         return answer(opening, 0, control);
+#ifdef LISTED
+    if (!list_ok(table, records, value_count, places, place_count))
+        return answer(USS_BAD_PLACES, 0, control);
+#endif
     if (reply_len < USS_BUFFER)
         return answer(USS_SHORT_REPLY, 0, control);
     number = number_of(setup, received, received_len);
@@ -584,7 +621,11 @@ uss_answer peer_slave(uss_setup setup, const uint8_t *table, size_t table_len, u
             if (asked == end)
                 said = say(USS_ID_ERROR, get32(received + 3), USS_NO_PARAMETER);
             else
+#ifdef LISTED
+                said = perform(received + 3, setup.pkw, asked, values + places[(size_t)(asked - table) / RECORD]);
+#else
                 said = perform(received + 3, setup.pkw, asked, values + first_place(table, asked, value_count == records));
+#endif
         }
         q = put_area(q, setup.pkw, said.head, said.value);
     }
@@ -596,6 +637,7 @@ uss_answer peer_slave(uss_setup setup, const uint8_t *table, size_t table_len, u
     return answer(USS_REPLIED, received_len, control);
 }
 
+#ifndef LISTED
 /* ---- the master */
 
 /* Whether the request can be told in a telegram: 31. */
@@ -846,3 +888,4 @@ uss_receiver peer_pause(uss_receiver receiver)
     receiver.state = 1;
     return receiver;
 }
+#endif

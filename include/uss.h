@@ -10,12 +10,12 @@
  *   - a refusal (a number of 10 and more) writes nothing, reports length 0, and gives back the control words it was given.
  *
  * What the caller owes: each pointer is valid for its count of elements for the time of the call, and properly aligned;
- * what is written (page, values, reply, out) does not overlap anything else that is lent to the same call. A count of 0 may
- * come with any pointer, NULL too.
+ * what is written (page, values, places, reply, out) does not overlap anything else that is lent to the same call. A count of 0
+ * may come with any pointer, NULL too.
  *
  * Structs go by value. Their layout is that of the chip's own C compiler (docs/CHIPS.md has the chips): no field is packed,
- * and sizes are 3, 8, 4, 16, 16, 8, 20, 16 and 16 bytes in the order below on each of them. On a 32-bit chip size_t has 32 bits, and
- * a count no more. Static asserts of each size and offset are compiled for each target.
+ * and sizes are 3, 8, 4, 16, 16, 8, 20, 16, 8, 32 and 16 bytes in the order below on each of them. On a 32-bit chip size_t has 32
+ * bits, and a count no more. Static asserts of each size and offset are compiled for each target.
  */
 #ifndef USS_H
 #define USS_H
@@ -30,9 +30,9 @@ extern "C" {
 /* The version of this header and of the archive that comes with it; the text says the three numbers. CHANGELOG.md says what a
  * step of each number means. */
 #define USS_VERSION_MAJOR 0
-#define USS_VERSION_MINOR 4
+#define USS_VERSION_MINOR 5
 #define USS_VERSION_PATCH 0
-#define USS_VERSION "0.4.0"
+#define USS_VERSION "0.5.0"
 
 /* A buffer for a reply or a built telegram has at least this many bytes, however short the telegram is. A receiver's page of so many
  * takes every telegram. */
@@ -47,7 +47,7 @@ extern "C" {
 /* ---- answer numbers: when each is given. Their order is with the calls; docs/PROTOCOL.md, Answer numbers, has the whole */
 
 enum uss_number {
-    USS_REPLIED = 0,         /* slave: a reply was written; build: the telegram was written; read: the reply was read; show: a figure */
+    USS_REPLIED = 0,         /* slave: a reply is written; build: a telegram; fill: a list; read: a reply; show: a figure; view: open */
     USS_MIRRORED = 1,        /* slave: the telegram itself is the reply */
     USS_TAKEN = 2,           /* slave: a broadcast was taken; there is no reply */
 
@@ -65,6 +65,7 @@ enum uss_number {
     USS_BAD_TABLE = 21,      /* the table breaks a rule */
     USS_BAD_VALUES = 22,     /* value count wrong, or a value outside its limits */
     USS_SHORT_REPLY = 23,    /* reply buffer under 256 bytes */
+    USS_BAD_PLACES = 25,     /* list not one place per record, or not the sums */
 
     USS_UNFIT_SETUP = 30,    /* master: set-up as 20 */
     USS_NOT_ASKABLE = 31,    /* master: request not expressible */
@@ -179,6 +180,17 @@ typedef struct {
 typedef struct {
     uint32_t number, rule, record, place;
 } uss_table_check;
+
+/* A view of a table: number 0, or 21 where the table breaks a rule; at is the record that it stands at, from 0. */
+typedef struct {
+    uint32_t number, at;
+} uss_view;
+
+/* What a view shows of a record: there is 1, and its fields follow. is_double, is_signed and writable are 0 or 1, elements is 0 where
+ * there is no array, minimum and maximum are the table's 32 bits: a signed word's -100 is 0x0000FF9C. All 0 where there is no record. */
+typedef struct {
+    uint32_t there, parameter, is_double, is_signed, writable, elements, minimum, maximum;
+} uss_record;
 
 /* What a panel shows of a process word: number 0 or 50; raw is the word where the raw word is shown, value the figure where hertz or
  * percent is. What is not shown is 0, the double positive zero; with 50 both are 0. */
@@ -303,6 +315,23 @@ uss_answer uss_slave(uss_setup setup, const uint8_t *table, size_t table_len, ui
                      uss_words control, uss_words status, const uint8_t *received, size_t received_len,
                      uint8_t *reply, size_t reply_len);
 
+/* Serves one received page as uss_slave does, with a list of first places. A parameter's place is looked up there and not added up.
+ * With a right list the answer is exactly that of uss_slave: number, length, control words, the reply's bytes, values. The parameters
+ * that are not named here are those of uss_slave.
+ *
+ * places    one number for each record, its first place: 0 for the first; for another the elements of all records before it, added
+ *           up, where a record without array counts as 1. uss_fill_places writes it. The list stands with its table: fill it once, and
+ *           lend it at each call. It is tested at each call: a list that was written over is 25, and no wrong value is read or changed. An
+ *           empty list goes with an empty table; for a table with records it is 25: a host without a list calls uss_slave.
+ *
+ * Numbers in test order: 20 21 22 25 23, 10 11 12 13 14 15, 16 17 18, then 0, 1 or 2. The first five are tested at each call.
+ *
+ * It writes what uss_slave writes. The list is only read. It pays where records are arrays; where none is, uss_slave is faster.
+ */
+uss_answer uss_slave_listed(uss_setup setup, const uint8_t *table, size_t table_len, uint32_t *values, size_t value_count,
+                            const uint16_t *places, size_t place_count, uss_words control, uss_words status,
+                            const uint8_t *received, size_t received_len, uint8_t *reply, size_t reply_len);
+
 /* Says which rule a table and its values break first, and where. The rules are those of docs/TABLES.md. For power-up and for tests.
  *
  * Numbers in test order: 21, 22, then 0.
@@ -310,6 +339,39 @@ uss_answer uss_slave(uss_setup setup, const uint8_t *table, size_t table_len, ui
  * They are those that uss_slave finds of table and values: 21 goes with rules 1 to 9, 22 with 10 and 11. It writes nothing.
  */
 uss_table_check uss_check_table(const uint8_t *table, size_t table_len, const uint32_t *values, size_t value_count);
+
+/* Fills the list of first places that uss_slave_listed takes. Once for each table: at power-up, and where the table is another one.
+ *
+ * places    the room for the list, one number for each record. What stands there before does not matter.
+ *
+ * Numbers in test order: 21, 25, then 0. Here 25 is that of the count alone: place_count is not the number of records.
+ *
+ * 0 writes every place; 21 and 25 write nothing.
+ */
+uint32_t uss_fill_places(const uint8_t *table, size_t table_len, uint16_t *places, size_t place_count);
+
+/* Opens a view of a table, for a screen that goes from record to record. It tests the whole table once, rules 1 to 9 of docs/TABLES.md;
+ * then uss_view_show shows the record that the view stands at, the first to begin with, and uss_view_step goes to the next. Lend the
+ * same table to each of them.
+ *
+ * Numbers in test order: 21, then 0. A view with 21 shows nothing. It writes nothing.
+ */
+uss_view uss_view_open(const uint8_t *table, size_t table_len);
+
+/* Shows the fields of the record that a view stands at. Behind the last record there is none, nor with a number that is not 0: then all
+ * is 0. It is never refused, and it writes nothing.
+ *
+ * view      what uss_view_open or uss_view_step gave; or any two numbers: nothing outside the table is read. Only uss_view_open tests
+ *           the table's rules: a view that was made up, number 0 and a record's place, shows that record's fields as they stand.
+ */
+uss_record uss_view_show(const uint8_t *table, size_t table_len, uss_view view);
+
+/* Steps to the next record. The view that comes back stands one further; a view that shows nothing comes back as it is. It is never
+ * refused, and it writes nothing.
+ *
+ * view      as in uss_view_show.
+ */
+uss_view uss_view_step(const uint8_t *table, size_t table_len, uss_view view);
 
 /* ---- the master
  *

@@ -10,7 +10,7 @@
 #include "uss.h"
 
 /* The text of an answer number (enum uss_number); "no answer number" for any other. 0 is one text for all calls: the slave has
- * replied, the telegram is built, the reply is read, a figure is shown. */
+ * replied, the telegram is built, the reply is read, a figure is shown, the list is filled, the view is opened. */
 static inline const char *uss_number_text(uint32_t number)
 {
     switch (number) {
@@ -30,6 +30,7 @@ static inline const char *uss_number_text(uint32_t number)
     case USS_BAD_TABLE: return "the table breaks a rule";
     case USS_BAD_VALUES: return "value count wrong, or a value outside its limits";
     case USS_SHORT_REPLY: return "reply buffer under 256 bytes";
+    case USS_BAD_PLACES: return "list of places not that of the table";
     case USS_UNFIT_SETUP: return "set-up not allowed in the master";
     case USS_NOT_ASKABLE: return "no telegram says this request";
     case USS_SHORT_OUT: return "telegram buffer under 256 bytes";

@@ -18,7 +18,7 @@ room="$(mktemp -d)"
 trap 'rm -rf "$room"' EXIT
 prefix="$room/prefix"
 strict=(-std=c99 -Wall -Wextra -Werror -pedantic)
-hosts=(slave_host master_host)
+hosts=(slave_host master_host screen_host)
 
 # rt_says STATUS: puts an `rt` that notes what it is asked and ends with that status before the one of the machine
 rt_says() {

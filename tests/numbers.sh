@@ -117,12 +117,15 @@ def rows(crate, file, name):
 
 content = body_of("opening", "Answers", "contentRows")
 OPENING = cases(body_of("opening", "Answers", "openingRows").replace("contentRows", content), "Closed", "openingNumber")
-TABLE = cases(content, "Closed", "openingNumber") + [0]
+LIST = number_of("openingNumber", "BadPlaces")  # where no list is lent its row never holds
+TABLE = [number for number in cases(content, "Closed", "openingNumber") if number != LIST] + [0]
+FILL = cases(body_of("places", "Fill", "fillingRows"), "Closed", "openingNumber") + [0]
+VIEW = [number_of("openingNumber", "BadTable"), 0]
 FRAME = cases(body_of("frame", "Frame", "frameRows"), "Broken", "frameNumber")
-SLAVE = rows("claims_slave", "AnswerTable", "answerRows")
+LISTED = rows("claims_slave", "AnswerTable", "answerRows")
 BUILD = cases(body_of("master", "Build", "admitRows"), "Refused", "buildNumber")
 READ = rows("claims_reply", "AnswerTable", "readingRows")
-same("the rows of the slave call and refusalNumber", sorted(SLAVE), sorted(numbers_of("refusalNumber")))
+same("the rows of the slave call and refusalNumber", sorted(LISTED), sorted(numbers_of("refusalNumber")))
 same("the rows of a build and buildNumber", sorted(BUILD), sorted(numbers_of("buildNumber")))
 same("the rows of a reading and readFaultNumber", sorted(READ), sorted(numbers_of("readFaultNumber")))
 
@@ -133,7 +136,8 @@ def accepted(name):
 
 
 SHOW = sorted(set(numbers_of("figureNumber")), reverse=True)  # its one refusal, then 0
-SLAVE, BUILD, READ = SLAVE + accepted("answerNumber"), BUILD + accepted("builtNumber"), READ + accepted("readNumber")
+LISTED, BUILD, READ = LISTED + accepted("answerNumber"), BUILD + accepted("builtNumber"), READ + accepted("readNumber")
+SLAVE = [number for number in LISTED if number != LIST]
 VERDICT = cases(body_of("slave", "Perform", "planOn"), "errorArea a", "errorNumber") \
     + cases(body_of("verdict", "Verdict", "verdictRows"), "Denied", "errorNumber")
 same("the errors' rows and errorNumber", sorted(VERDICT), sorted(numbers_of("errorNumber")))
@@ -149,7 +153,7 @@ def table_of(page):
 
 for page, answers, errors in (
     ("README.md", sorted(told["uss_number"]), sorted(told["uss_error"])),
-    ("docs/PROTOCOL.md", SLAVE + sorted(told["uss_number"] - set(SLAVE)), VERDICT),
+    ("docs/PROTOCOL.md", LISTED + sorted(told["uss_number"] - set(LISTED)), VERDICT),
 ):
     found = table_of(page)
     for number, names, meaning in found:
@@ -176,9 +180,12 @@ def orders_of(page):
     return found
 
 
-same("docs/PROTOCOL.md: orders of slave, build, reading, hertz", orders_of("docs/PROTOCOL.md"), [SLAVE, BUILD, READ, SHOW])
-same("docs/CALLS.md: orders of slave, three builds, reading, hertz", orders_of("docs/CALLS.md"), [SLAVE, BUILD, BUILD, BUILD, READ, SHOW])
-same("include/uss.h: orders of slave, table check, build, reading, hertz", orders_of("include/uss.h"), [SLAVE, TABLE, BUILD, READ, SHOW])
+same("docs/PROTOCOL.md: orders of slave, slave with a list, filling, view, build, reading, hertz", orders_of("docs/PROTOCOL.md"),
+     [SLAVE, LISTED, FILL, VIEW, BUILD, READ, SHOW])
+same("docs/CALLS.md: orders of slave, slave with a list, filling, view, three builds, reading, hertz", orders_of("docs/CALLS.md"),
+     [SLAVE, LISTED, FILL, VIEW, BUILD, BUILD, BUILD, READ, SHOW])
+same("include/uss.h: orders of slave, slave with a list, table check, filling, view, build, reading, hertz", orders_of("include/uss.h"),
+     [SLAVE, LISTED, TABLE, FILL, VIEW, BUILD, READ, SHOW])
 
 # ---- docs/PROTOCOL.md: pages and tasks
 
@@ -224,6 +231,6 @@ for name, column in (("task1082", [task for task, _ in cells]), ("value1082", [r
     same(f"docs/PROTOCOL.md: the bytes of {name}", [int(byte, 16) for byte in " ".join(column).split()], telegram_of(name))
 
 print(f"numbers: {len(ANSWERS)} answer numbers, {len(ERRORS)} parameter errors, {len(TASKS)} tasks, {len(pages)} pages; "
-      f"{len(RULES)} rules of a table, {len(DEFINED)} definitions, 5 orders, 3 telegrams")
+      f"{len(RULES)} rules of a table, {len(DEFINED)} definitions, 8 orders, 3 telegrams")
 sys.exit(failed)
 PYTHON

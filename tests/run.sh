@@ -139,6 +139,7 @@ try 'texts for numbers' tests/text.sh
 try 'docs/TABLES.md' table_page
 try 'example slave_host.c' example slave_host
 try 'example master_host.c' example master_host
+try 'example screen_host.c' example screen_host
 try 'example host.rs' rust_example
 try 'demo' demo
 try 'first run' tests/first_run.sh

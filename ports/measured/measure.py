@@ -26,8 +26,9 @@ SECTIONS = ["-ffunction-sections", "-fdata-sections"]
 # what is measured against: the peer at its smallest of these
 PEER = {"-Oz": ["-Oz"], "-Oz, all inlined": archive.SIZE[:3], "-Oz, branches kept": ["-Oz", *archive.SIZE[3:]],
         "as ours": archive.SIZE, "-Os": ["-Os"]}
-PEERS = {"uss_slave": "peer_slave", "uss_build_task": "peer_build_task", "uss_read_reply": "peer_read_reply", "uss_bcc": "peer_bcc",
-         "uss_receive": "peer_receive", "uss_receive_bytes": "peer_receive_bytes", "uss_pause": "peer_pause"}
+PEERS = {"uss_slave": "peer_slave", "uss_slave_listed": "peer_slave_listed", "uss_build_task": "peer_build_task",
+         "uss_read_reply": "peer_read_reply", "uss_bcc": "peer_bcc", "uss_receive": "peer_receive",
+         "uss_receive_bytes": "peer_receive_bytes", "uss_pause": "peer_pause"}
 MASTER = ["uss_build_task", "uss_read_reply"]
 DOUBLES = ["uss_show_hertz", "uss_show_percent"]
 
@@ -61,18 +62,26 @@ class Measure:
         self.kit.must("clang", [*words, *more, "-c", source, "-o", to])
         return to
 
+    def both(self, label, compile_to):
+        """An archive of bench/peer.c and of its slave with a list, as it is compiled by a function of words and object."""
+        objects = [out(label, "peer.o"), out(label, "listed-peer.o")]
+        compile_to([], objects[0])
+        compile_to(["-DLISTED"], objects[1])
+        self.kit.must("llvm-ar", ["rcsD", out(label, "peer.a"), *objects])
+        return out(label, "peer.a")
+
     def peer(self, name, flags, label):
         """bench/peer.c for a target. Its memcpy of a few bytes is to become loads and stores, so builtins are on."""
+        words = ["-fbuiltin", "-fhosted", "-std=c99", *flags, *SECTIONS]
         source = os.path.join(BENCH, "peer.c")
-        return self.clang(name, source, out(name, label, "peer.o"), "-fbuiltin", "-fhosted", "-std=c99", *flags, *SECTIONS)
+        return self.both(f"{name}-{label}", lambda more, to: self.clang(name, source, to, *words, *more))
 
     def peer_by_gcc(self, name):
-        gcc, to = GCC[name], out(name, "gcc-peer.o")
+        gcc = GCC[name]
         # the compiler for RISC-V comes without a C library
         include = [INCLUDE, BENCH] + ([] if gcc[0].startswith("arm") else [os.path.join(ROOT, "ports", "include")])
         words = [*gcc, "-Os", "-std=c99", *SECTIONS, *(f"-I{path}" for path in include)]
-        said([*words, "-c", os.path.join(BENCH, "peer.c"), "-o", to])
-        return to
+        return self.both(f"{name}-gcc", lambda more, to: said([*words, *more, "-c", os.path.join(BENCH, "peer.c"), "-o", to]))
 
     # ---- bytes
 

@@ -175,6 +175,33 @@ pub struct TableFault {
     pub place: u32,
 }
 
+/// A record of a table.
+#[derive(Clone, Copy, Debug, PartialEq, Eq, Hash)]
+pub struct Record {
+    /// The parameter's number.
+    pub parameter: u32,
+    /// A double and not a word.
+    pub double: bool,
+    /// Its limits and values have a sign.
+    pub signed: bool,
+    /// A master may change it.
+    pub writable: bool,
+    /// How many elements the array has; 0 where there is no array.
+    pub elements: u32,
+    /// The least value, as bits: a signed word's -100 is 0xFF9C.
+    pub minimum: u32,
+    /// The greatest value, as bits.
+    pub maximum: u32,
+}
+
+/// The records of a table, one after the other: what [`view`] gives.
+#[derive(Clone, Debug)]
+#[must_use]
+pub struct View<'a> {
+    table: &'a [u8],
+    at: raw::View,
+}
+
 /// A task of a master, as it is built and as its reply is read. The default is task 0 with process words 0.
 #[derive(Clone, Copy, Debug, Default, PartialEq, Eq, Hash)]
 pub struct Request {
@@ -215,6 +242,17 @@ fn received(r: raw::Received, count: usize, page: &[u8]) -> Received<'_> {
         length => Some(written(page, length)),
     };
     Received { taken, telegram, receiver: r.receiver }
+}
+
+/// What a slave call gives back, with the reply at the start of its buffer.
+fn served(a: raw::Answer, reply: &[u8]) -> Served<'_> {
+    let answer = match a.number {
+        0 => Answer::Replied(written(reply, a.length)),
+        1 => Answer::Mirrored(written(reply, a.length)),
+        2 => Answer::Taken,
+        number => Answer::Refused(Refusal::from(number)),
+    };
+    Served { answer, control: a.control }
 }
 
 /// The telegram that a build has written, or why there is none.
@@ -332,13 +370,45 @@ pub fn serve<'a>(
             received.len(), reply.as_mut_ptr(), reply.len(),
         )
     };
-    let answer = match a.number {
-        0 => Answer::Replied(written(reply, a.length)),
-        1 => Answer::Mirrored(written(reply, a.length)),
-        2 => Answer::Taken,
-        number => Answer::Refused(Refusal::from(number)),
+    served(a, reply)
+}
+
+/// Serves one received page as [`serve`] does, with the list of first places of the table, which [`fill_places`] writes: a parameter's
+/// place is looked up and not added up. With a right list it leaves exactly what [`serve`] leaves.
+///
+/// The list stands with its table: fill it once, and lend it at each call. It is tested at each call, after the values and before the
+/// buffer: `BadPlaces` where it has not one place for each record, or not the sums. An empty list goes with an empty table alone.
+///
+/// ```
+/// use uss::{Answer, Refusal, Setup, Words};
+///
+/// let (setup, zero) = (Setup { node: 3, pkw: 4, pzd: 2 }, Words::default());
+/// // 1082, a word, writable, two elements, 0 to 65000
+/// let table = [0x08, 0x74, 0x40, 0x80, 0, 0, 0, 0, 0, 0, 0xFD, 0xE8];
+/// let (mut values, mut places, mut reply) = ([5000, 6000], [0; 1], [0; uss::BUFFER]);
+/// uss::fill_places(&table, &mut places).unwrap();
+/// // read element 1 of 1082
+/// let telegram = [2, 14, 3, 0x64, 0x3A, 0, 1, 0, 0, 0, 0, 0x04, 0x7F, 0x20, 0, 0x0B];
+/// let listed = uss::serve_listed(setup, &table, &mut values, &places, zero, zero, &telegram, &mut reply);
+/// assert!(matches!(listed.answer, Answer::Replied(_)));
+/// assert_eq!(reply[9..11], [0x17, 0x70]);
+/// let refused = uss::serve_listed(setup, &table, &mut values, &[1], zero, zero, &telegram, &mut reply);
+/// assert_eq!(refused.answer, Answer::Refused(Refusal::BadPlaces));
+/// ```
+#[allow(clippy::too_many_arguments)]
+pub fn serve_listed<'a>(
+    setup: Setup, table: &[u8], values: &mut [u32], places: &[u16], control: Words, status: Words, received: &[u8],
+    reply: &'a mut [u8],
+) -> Served<'a> {
+    // SAFETY: pointers and counts are those of five slices, of which those lent for writing overlap no other; the call takes any bytes,
+    // numbers and counts, and reads and writes only inside what is lent (docs/PROMISES.md, demand 1).
+    let a = unsafe {
+        raw::uss_slave_listed(
+            setup, table.as_ptr(), table.len(), values.as_mut_ptr(), values.len(), places.as_ptr(), places.len(), control, status,
+            received.as_ptr(), received.len(), reply.as_mut_ptr(), reply.len(),
+        )
     };
-    Served { answer, control: a.control }
+    served(a, reply)
 }
 
 /// Builds the telegram of a task at the start of `out`, which has at least [`BUFFER`] bytes, and returns it.
@@ -386,6 +456,83 @@ pub fn check_table(table: &[u8], values: &[u32]) -> Result<(), TableFault> {
         number => Err(TableFault { refusal: Refusal::from(number), rule: Rule::from(r.rule), record: r.record, place: r.place }),
     }
 }
+
+/// Fills the list of first places that [`serve_listed`] takes: one number for each record of the table.
+///
+/// `BadTable` where the table breaks a rule, then `BadPlaces` where `places` has another length than the table has records; what stands
+/// in it before does not matter. A refusal writes nothing.
+///
+/// ```
+/// use uss::Refusal;
+///
+/// // 1000, a word of two elements; 1082, a word
+/// let table = [
+///     0x07, 0xD0, 0x40, 0x80, 0, 0, 0, 0, 0, 0, 0, 10, //
+///     0x08, 0x74, 0x40, 0x00, 0, 0, 0, 0, 0, 0, 0, 10,
+/// ];
+/// let mut places = [0xEEEE; 2];
+/// assert_eq!(uss::fill_places(&table, &mut places[..1]), Err(Refusal::BadPlaces));
+/// assert_eq!(uss::fill_places(&table, &mut places), Ok(()));
+/// assert_eq!(places, [0, 2]);
+/// ```
+pub fn fill_places(table: &[u8], places: &mut [u16]) -> Result<(), Refusal> {
+    // SAFETY: pointers and counts are those of two slices, and the one lent for writing does not overlap the other; the call takes any
+    // bytes and counts, and reads and writes only inside what is lent (docs/PROMISES.md, demand 1).
+    match unsafe { raw::uss_fill_places(table.as_ptr(), table.len(), places.as_mut_ptr(), places.len()) } {
+        0 => Ok(()),
+        number => Err(Refusal::from(number)),
+    }
+}
+
+/// Opens a view of a table, for a screen that goes from record to record: an iterator over its records. `BadTable` where the table
+/// breaks a rule; it is tested once, here.
+///
+/// ```
+/// use uss::Refusal;
+///
+/// // 1082, a signed word, writable, two elements, -100 to 100
+/// let table = [0x08, 0x74, 0xC0, 0x80, 0, 0, 0xFF, 0x9C, 0, 0, 0, 100];
+/// let mut view = uss::view(&table).unwrap();
+/// let record = view.next().unwrap();
+/// assert_eq!((record.parameter, record.double, record.signed, record.elements), (1082, false, true, 2));
+/// assert_eq!((record.minimum as u16 as i16, record.maximum), (-100, 100));
+/// assert_eq!(view.next(), None);
+/// assert_eq!(uss::view(&table[1..]).unwrap_err(), Refusal::BadTable);
+/// ```
+pub fn view(table: &[u8]) -> Result<View<'_>, Refusal> {
+    // SAFETY: pointer and count are those of one slice; the call takes any bytes and any count, reads only inside what is lent and
+    // writes nothing (docs/PROMISES.md, demand 1).
+    let at = unsafe { raw::uss_view_open(table.as_ptr(), table.len()) };
+    match at.number {
+        0 => Ok(View { table, at }),
+        number => Err(Refusal::from(number)),
+    }
+}
+
+impl Iterator for View<'_> {
+    type Item = Record;
+
+    fn next(&mut self) -> Option<Record> {
+        let (table, at) = (self.table, self.at);
+        // SAFETY: pointer and count are those of one slice; the call takes any bytes, any count and any view, reads only inside what is
+        // lent and writes nothing (docs/PROMISES.md, demand 1).
+        let r = unsafe { raw::uss_view_show(table.as_ptr(), table.len(), at) };
+        // SAFETY: as above.
+        self.at = unsafe { raw::uss_view_step(table.as_ptr(), table.len(), at) };
+        let record = Record {
+            parameter: r.parameter,
+            double: r.is_double != 0,
+            signed: r.is_signed != 0,
+            writable: r.writable != 0,
+            elements: r.elements,
+            minimum: r.minimum,
+            maximum: r.maximum,
+        };
+        (r.there != 0).then_some(record)
+    }
+}
+
+impl core::iter::FusedIterator for View<'_> {}
 
 /// Builds a mirror telegram of 1 to 252 net bytes at the start of `out`, which has at least [`BUFFER`] bytes, and returns it.
 ///

@@ -71,6 +71,8 @@ numbers! {
     BadValues = 22,
     /// Reply buffer under 256 bytes.
     ShortReply = 23,
+    /// List not one place per record, or not the sums.
+    BadPlaces = 25,
     /// Master: set-up as 20.
     UnfitSetup = 30,
     /// Master: request not expressible.

@@ -39,6 +39,25 @@ pub struct TableCheck {
 }
 
 #[repr(C)]
+#[derive(Clone, Copy, Debug)]
+pub struct View {
+    pub number: u32,
+    pub at: u32,
+}
+
+#[repr(C)]
+pub struct Record {
+    pub there: u32,
+    pub parameter: u32,
+    pub is_double: u32,
+    pub is_signed: u32,
+    pub writable: u32,
+    pub elements: u32,
+    pub minimum: u32,
+    pub maximum: u32,
+}
+
+#[repr(C)]
 pub struct Figure {
     pub number: u32,
     pub raw: u32,
@@ -53,7 +72,15 @@ extern "C" {
         setup: Setup, table: *const u8, table_len: usize, values: *mut u32, value_count: usize, control: Words, status: Words,
         received: *const u8, received_len: usize, reply: *mut u8, reply_len: usize,
     ) -> Answer;
+    pub fn uss_slave_listed(
+        setup: Setup, table: *const u8, table_len: usize, values: *mut u32, value_count: usize, places: *const u16, place_count: usize,
+        control: Words, status: Words, received: *const u8, received_len: usize, reply: *mut u8, reply_len: usize,
+    ) -> Answer;
     pub fn uss_check_table(table: *const u8, table_len: usize, values: *const u32, value_count: usize) -> TableCheck;
+    pub fn uss_fill_places(table: *const u8, table_len: usize, places: *mut u16, place_count: usize) -> u32;
+    pub fn uss_view_open(table: *const u8, table_len: usize) -> View;
+    pub fn uss_view_show(table: *const u8, table_len: usize, view: View) -> Record;
+    pub fn uss_view_step(table: *const u8, table_len: usize, view: View) -> View;
     pub fn uss_build_task(
         setup: Setup, task: u8, parameter: u16, index: u8, value: u32, process: Words, out: *mut u8, out_len: usize,
     ) -> Built;
@@ -80,4 +107,6 @@ const _: () = assert!(core::mem::size_of::<Answer>() == 16);
 const _: () = assert!(core::mem::size_of::<Built>() == 8);
 const _: () = assert!(core::mem::size_of::<Reply>() == 20);
 const _: () = assert!(core::mem::size_of::<TableCheck>() == 16);
+const _: () = assert!(core::mem::size_of::<View>() == 8);
+const _: () = assert!(core::mem::size_of::<Record>() == 32);
 const _: () = assert!(core::mem::size_of::<Figure>() == 16);

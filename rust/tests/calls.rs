@@ -1,6 +1,6 @@
 //! Every call through the archive: what goes in comes out where it belongs, and a refusal leaves everything as it was.
 
-use uss::{Answer, Content, ParameterError, Receiver, Refusal, Request, Setup, Task, Words};
+use uss::{Answer, Content, ParameterError, Receiver, Record, Refusal, Request, Setup, Task, Words};
 
 const SETUP: Setup = Setup { node: 3, pkw: 4, pzd: 4 };
 /// 700: a signed word, writable, -100 to 100. 701: a double, writable, two elements, any value.
@@ -98,6 +98,67 @@ fn a_refused_slave_call_leaves_everything() {
         assert_eq!(served.answer, Answer::Refused(refusal));
         assert_eq!(served.answer.reply(), None);
         assert_eq!((served.control, values, reply), (PROCESS, [5, 6, 7], [0xAA; 256]));
+    }
+}
+
+#[test]
+fn a_right_list_leaves_what_no_list_leaves() {
+    let mut places = [0xEEEE; 2];
+    assert_eq!(uss::fill_places(&TABLE, &mut places), Ok(()));
+    assert_eq!(places, [0, 1]);
+    for task in [Task::Read, Task::ChangeWord, Task::ChangeDouble, Task::ReadElement, Task::SaveElementDouble, Task::CountElements] {
+        for parameter in 699..703 {
+            for index in 0..3 {
+                let change = !matches!(task, Task::Read | Task::ReadElement | Task::CountElements);
+                let request = Request { task, parameter, index, value: if change { 9 } else { 0 }, process: PROCESS };
+                let (mut out, mut one, mut other) = ([0; uss::BUFFER], [0xAA; uss::BUFFER], [0xAA; uss::BUFFER]);
+                let (mut values, mut others) = ([5, 6, 7], [5, 6, 7]);
+                let telegram = uss::build_task(SETUP, request, &mut out).unwrap();
+                let listed = uss::serve_listed(SETUP, &TABLE, &mut values, &places, Words::default(), STATUS, telegram, &mut one);
+                let served = uss::serve(SETUP, &TABLE, &mut others, Words::default(), STATUS, telegram, &mut other);
+                assert!(matches!(listed.answer, Answer::Replied(_)));
+                assert_eq!(listed, served);
+                assert_eq!((values, one), (others, other));
+            }
+        }
+    }
+}
+
+#[test]
+fn a_wrong_list_is_refused() {
+    let mut out = [0; uss::BUFFER];
+    let change = Request { task: Task::ChangeWord, parameter: 700, value: 9, process: PROCESS, ..Request::default() };
+    let telegram = uss::build_task(SETUP, change, &mut out).unwrap();
+    let wrong: [&[u16]; 6] = [&[], &[0], &[0, 1, 3], &[1, 1], &[0, 0], &[0, 2]];
+    for places in wrong {
+        let (mut values, mut reply) = ([5, 6, 7], [0xAA; 256]);
+        for (count, room, refusal) in [(2, 255, Refusal::BadValues), (3, 255, Refusal::BadPlaces), (3, 256, Refusal::BadPlaces)] {
+            let served = uss::serve_listed(SETUP, &TABLE, &mut values[..count], places, PROCESS, STATUS, telegram, &mut reply[..room]);
+            assert_eq!((served.answer, served.control), (Answer::Refused(refusal), PROCESS));
+        }
+        assert_eq!((values, reply), ([5, 6, 7], [0xAA; 256]));
+    }
+    let mut places = [0xEEEE; 3];
+    for count in [0, 1, 3] {
+        assert_eq!(uss::fill_places(&TABLE, &mut places[..count]), Err(Refusal::BadPlaces));
+        assert_eq!(uss::fill_places(&TABLE[1..], &mut places[..count]), Err(Refusal::BadTable));
+    }
+    assert_eq!(places, [0xEEEE; 3]);
+    assert_eq!(uss::fill_places(&[], &mut []), Ok(()));
+}
+
+#[test]
+fn a_view_goes_from_record_to_record() {
+    let mut view = uss::view(&TABLE).unwrap();
+    let first = Record { parameter: 700, double: false, signed: true, writable: true, elements: 0, minimum: 0xFF9C, maximum: 100 };
+    let second = Record { parameter: 701, double: true, signed: false, writable: true, elements: 2, minimum: 0, maximum: u32::MAX };
+    assert_eq!(view.next(), Some(first));
+    assert_eq!(view.clone().count(), 1);
+    assert_eq!(view.next(), Some(second));
+    assert_eq!((view.next(), view.next()), (None, None));
+    assert_eq!(uss::view(&[]).unwrap().next(), None);
+    for bytes in [&TABLE[..23], &TABLE[1..], &[0xFF; 12], &[0; 1]] {
+        assert_eq!(uss::view(bytes).unwrap_err(), Refusal::BadTable);
     }
 }
 

@@ -1,5 +1,5 @@
 /* Each call once from C: known telegrams (K1 to K6, K9, K10 of document 01), bad use, each rule of a table broken, lines for the
- * receiver (W-201), and figures for a panel (W-204). Prints a line for each group. */
+ * receiver (W-201), figures for a panel (W-204), lists of first places and views of a table (W-205). Prints a line for each group. */
 #define _DEFAULT_SOURCE
 #include "uss.h"
 
@@ -224,6 +224,15 @@ static const uint8_t two_records[24] = {
     USS_SIGNED_WORD(1082, USS_WRITABLE, 0, -100, 100)
 };
 
+/* Record k of a table of many: number k, 8 elements, 0 to 0. */
+static void put_many(uint8_t *table, size_t k)
+{
+    memset(table + 12 * k, 0, 12);
+    table[12 * k] = (uint8_t)(k / 128);
+    table[12 * k + 1] = (uint8_t)(k % 128 * 2);
+    table[12 * k + 2] = 2;
+}
+
 static int tells(uss_table_check c, uint32_t number, uint32_t rule, uint32_t record_at, uint32_t place)
 {
     return c.number == number && c.rule == rule && c.record == record_at && c.place == place;
@@ -266,17 +275,223 @@ static void broken_rules(void)
         table[slips[i].at + 1] = slips[i].next;
         expect(tells(uss_check_table(table, 24, values, 3), USS_BAD_TABLE, slips[i].rule, 1, 0), "a slip in the second record");
     }
-    for (i = 0; i < 513; i++) { /* record i: number i, 8 elements, 0 to 0 */
-        memset(many + 12 * i, 0, 12);
-        many[12 * i] = (uint8_t)(i / 128);
-        many[12 * i + 1] = (uint8_t)(i % 128 * 2);
-        many[12 * i + 2] = 2;
-    }
+    for (i = 0; i < 513; i++)
+        put_many(many, i);
     expect(tells(uss_check_table(many, 12 * 513, values, 3), USS_BAD_TABLE, USS_RULE_MANY_RECORDS, 512, 0), "513 records");
     expect(tells(uss_check_table(many, 12 * 512, values, 3), USS_BAD_VALUES, USS_RULE_VALUE_COUNT, 512, 4096), "4096 places");
     many[12 * 500 + 3] = 0x40;
     expect(tells(uss_check_table(many, 12 * 512, values, 3), USS_BAD_TABLE, USS_RULE_MANY_PLACES, 511, 0), "4097 places");
     puts("broken rules");
+}
+
+/* ---- lists of first places, views of a table */
+
+/* 700: one value; 701: three; 702: one; 703: an array of one; 704: two */
+static const uint8_t five_records[60] = {
+    USS_WORD(700, USS_WRITABLE, 0, 0, 99),
+    USS_SIGNED_WORD(701, USS_READ_ONLY, 3, -100, 100),
+    USS_DOUBLE(702, USS_WRITABLE, 0, 0, 4294967295),
+    USS_SIGNED_DOUBLE(703, USS_WRITABLE, 1, -70000, 70000),
+    USS_WORD(704, USS_WRITABLE, 2, 0, 65535)
+};
+static const uint16_t five_places[5] = {0, 1, 4, 5, 6};
+
+/* `count` 16-bit numbers that end where memory ends. */
+static uint16_t *places_at_the_end(const uint16_t *from, size_t count)
+{
+    uint16_t *places = (uint16_t *)(void *)at_the_end(2 * count);
+    if (from != NULL)
+        memcpy(places, from, 2 * count);
+    return places;
+}
+
+static void filled_lists(void)
+{
+    uint8_t *table = at_the_end(60), *many = at_the_end(12 * 513), *end = at_the_end(0);
+    uint16_t *places = places_at_the_end(NULL, 5), *long_list = places_at_the_end(NULL, 513);
+    size_t i;
+    int good = 1;
+
+    memcpy(table, five_records, 60);
+    expect(uss_fill_places(table, 60, places, 5) == USS_DONE && memcmp(places, five_places, 10) == 0, "a list is filled");
+    expect(all_are((uint8_t *)(places - 20), 0, 40, 0xEE), "nothing before it is written");
+    expect(uss_fill_places(table, 60, places, 5) == USS_DONE && memcmp(places, five_places, 10) == 0, "and filled again");
+    memset(places, 0xEE, 10);
+    expect(uss_fill_places(table, 60, places + 1, 4) == USS_BAD_PLACES, "a list too short");
+    expect(uss_fill_places(table, 48, places, 5) == USS_BAD_PLACES, "a list too long");
+    expect(uss_fill_places(NULL, 0, places, 5) == USS_BAD_PLACES, "a list for no records");
+    expect(uss_fill_places(table, 60, NULL, 0) == USS_BAD_PLACES, "no list for five records");
+    expect(uss_fill_places(table + 1, 59, places, 5) == USS_BAD_TABLE, "half a record");
+    table[51] |= 1;
+    expect(uss_fill_places(table, 60, places, 5) == USS_BAD_TABLE && uss_fill_places(table, 60, NULL, 0) == USS_BAD_TABLE, "21 before 25");
+    expect(all_are((uint8_t *)places, 0, 10, 0xEE), "a refusal writes nothing to a list");
+    expect(uss_fill_places(NULL, 0, NULL, 0) == USS_DONE && uss_fill_places(end, 0, (uint16_t *)(void *)end, 0) == USS_DONE,
+           "an empty list for an empty table");
+
+    for (i = 0; i < 513; i++)
+        put_many(many, i);
+    expect(uss_fill_places(many, 12 * 513, long_list, 513) == USS_BAD_TABLE && all_are((uint8_t *)long_list, 0, 1026, 0xEE), "513 records");
+    expect(uss_fill_places(many, 12 * 512, long_list + 1, 512) == USS_DONE, "512 records");
+    for (i = 0; i < 512; i++)
+        good &= long_list[1 + i] == 8 * i;
+    expect(good && all_are((uint8_t *)long_list, 0, 2, 0xEE), "places up to 4088");
+    many[12 * 500 + 3] = 0x40;
+    expect(uss_fill_places(many, 12 * 512, long_list + 1, 512) == USS_BAD_TABLE, "4097 places");
+    puts("filled lists");
+}
+
+/* Each task with a right list as without one; each wrong list refused, and nothing written. */
+static void lent_lists(void)
+{
+    static const uint32_t given[8] = {5, 0xFF9C, 0, 100, 70000, 0xFFFFFFFF, 6000, 6001};
+    static const uss_setup bad = {32, 4, 2};
+    uint8_t *table = at_the_end(60), *telegram = at_the_end(16), *reply = at_the_end(256), other[256];
+    uint32_t *values = (uint32_t *)(void *)at_the_end(32), others[8];
+    uint16_t *places = places_at_the_end(five_places, 5), six[6] = {0, 1, 4, 5, 6, 8};
+    uss_answer a, b;
+    uint32_t parameter, task, index;
+    size_t i;
+
+    memcpy(table, five_records, 60);
+    for (parameter = 699; parameter < 706; parameter++)
+        for (task = 0; task < 16; task++)
+            for (index = 0; index < 4; index++) {
+                uint32_t value = 7 + index;
+                uint8_t net[12] = {0};
+                net[0] = (uint8_t)(task << 4 | parameter >> 8);
+                net[1] = (uint8_t)parameter;
+                net[3] = (uint8_t)index;
+                net[7] = (uint8_t)value;
+                net[8] = 4;
+                memcpy(telegram, "\x02\x0E\x03", 3);
+                memcpy(telegram + 3, net, 12);
+                telegram[15] = uss_bcc(telegram, 15);
+                memcpy(values, given, 32);
+                memcpy(others, given, 32);
+                memset(reply, 0xEE, 256);
+                memset(other, 0xEE, 256);
+                a = uss_slave_listed(setup, table, 60, values, 8, places, 5, held, status, telegram, 16, reply, 256);
+                b = uss_slave(setup, table, 60, others, 8, held, status, telegram, 16, other, 256);
+                expect(a.number == USS_REPLIED && a.number == b.number && a.length == b.length && same_words(a.control, b.control)
+                       && memcmp(reply, other, 256) == 0 && memcmp(values, others, 32) == 0, "with a list as without");
+            }
+    expect(memcmp(places, five_places, 10) == 0, "a list is only read");
+
+    memcpy(telegram, k2, 16);
+    memcpy(values, given, 32);
+    memset(reply, 0xEE, 256);
+    for (i = 0; i < 5; i++) {
+        places[i] ^= 1;
+        a = uss_slave_listed(setup, table, 60, values, 8, places, 5, held, status, telegram, 16, reply, 256);
+        expect(a.number == USS_BAD_PLACES && a.length == 0 && same_words(a.control, held), "one entry is wrong");
+        places[i] ^= 0x8001;
+        expect(uss_slave_listed(setup, table, 60, values, 8, places, 5, held, status, NULL, 0, NULL, 0).number == USS_BAD_PLACES, "25 before 23");
+        places[i] = five_places[i];
+    }
+    expect(uss_slave_listed(setup, table, 60, values, 8, places, 4, held, status, telegram, 16, reply, 256).number == USS_BAD_PLACES,
+           "a list too short");
+    expect(uss_slave_listed(setup, table, 60, values, 8, six, 6, held, status, telegram, 16, reply, 256).number == USS_BAD_PLACES,
+           "a list too long");
+    expect(uss_slave_listed(setup, table, 60, values, 8, NULL, 0, held, status, telegram, 16, reply, 256).number == USS_BAD_PLACES,
+           "an empty list is not no list");
+    expect(uss_slave_listed(setup, NULL, 0, NULL, 0, six, 1, held, status, telegram, 16, reply, 256).number == USS_BAD_PLACES,
+           "a list for no records");
+    expect(uss_slave_listed(bad, table, 59, values, 7, NULL, 0, held, status, NULL, 0, NULL, 0).number == USS_BAD_SETUP, "20 first");
+    expect(uss_slave_listed(setup, table, 59, values, 7, NULL, 0, held, status, NULL, 0, NULL, 0).number == USS_BAD_TABLE, "then 21");
+    expect(uss_slave_listed(setup, table, 60, values, 7, NULL, 0, held, status, NULL, 0, NULL, 0).number == USS_BAD_VALUES, "then 22");
+    expect(uss_slave_listed(setup, table, 60, values, 8, NULL, 0, held, status, NULL, 0, NULL, 0).number == USS_BAD_PLACES, "then 25");
+    expect(uss_slave_listed(setup, table, 60, values, 8, places, 5, held, status, NULL, 0, NULL, 0).number == USS_SHORT_REPLY, "then 23");
+    expect(uss_slave_listed(setup, table, 60, values, 8, places, 5, held, status, NULL, 0, reply, 256).number == USS_SHORT, "then 10");
+    expect(all_are(reply, 0, 256, 0xEE) && memcmp(values, given, 32) == 0, "a refusal writes nothing");
+    a = uss_slave_listed(setup, NULL, 0, NULL, 0, NULL, 0, held, status, k2, 16, reply, 256);
+    expect(a.number == USS_REPLIED && a.length == 16 && memcmp(reply, k4, 16) == 0, "an empty list with an empty table");
+    puts("lent lists");
+}
+
+static uss_view standing(uint32_t number, uint32_t at)
+{
+    uss_view v;
+    v.number = number;
+    v.at = at;
+    return v;
+}
+
+static int stands(uss_view v, uint32_t number, uint32_t at)
+{
+    return v.number == number && v.at == at;
+}
+
+static int is_record(uss_record r, uint32_t parameter, uint32_t is_double, uint32_t is_signed, uint32_t writable, uint32_t elements,
+                     uint32_t minimum, uint32_t maximum)
+{
+    return r.there == 1 && r.parameter == parameter && r.is_double == is_double && r.is_signed == is_signed && r.writable == writable
+           && r.elements == elements && r.minimum == minimum && r.maximum == maximum;
+}
+
+static int is_none(uss_record r)
+{
+    return (r.there | r.parameter | r.is_double | r.is_signed | r.writable | r.elements | r.minimum | r.maximum) == 0;
+}
+
+static void views(void)
+{
+    static const uint32_t numbers[] = {1, 21, 22, 0x80000000u, 0xFFFFFFFFu};
+    static const uint32_t far[] = {5, 6, 511, 512, 513, 0x15555556u, 0x80000000u, 0xFFFFFFFFu};
+    uint8_t *table = at_the_end(60), *many = at_the_end(12 * 513);
+    uss_view v;
+    size_t i;
+
+    memcpy(table, five_records, 60);
+    v = uss_view_open(table, 60);
+    expect(stands(v, USS_DONE, 0), "a view is opened");
+    expect(is_record(uss_view_show(table, 60, v), 700, 0, 0, 1, 0, 0, 99), "the first record");
+    expect(is_record(uss_view_show(table, 60, v), 700, 0, 0, 1, 0, 0, 99), "it is shown as often as it is asked for");
+    v = uss_view_step(table, 60, v);
+    expect(stands(v, USS_DONE, 1) && is_record(uss_view_show(table, 60, v), 701, 0, 1, 0, 3, 0xFF9C, 100), "the second");
+    v = uss_view_step(table, 60, v);
+    expect(is_record(uss_view_show(table, 60, v), 702, 1, 0, 1, 0, 0, 0xFFFFFFFFu), "the third");
+    v = uss_view_step(table, 60, v);
+    expect(is_record(uss_view_show(table, 60, v), 703, 1, 1, 1, 1, 0xFFFEEE90u, 70000), "the fourth");
+    v = uss_view_step(table, 60, v);
+    expect(stands(v, USS_DONE, 4) && is_record(uss_view_show(table, 60, v), 704, 0, 0, 1, 2, 0, 65535), "the last");
+    v = uss_view_step(table, 60, v);
+    expect(stands(v, USS_DONE, 5) && is_none(uss_view_show(table, 60, v)), "the end");
+    expect(stands(uss_view_step(table, 60, v), USS_DONE, 5), "there is no step behind the end");
+
+    for (i = 0; i < sizeof far / sizeof far[0]; i++) {
+        v = standing(0, far[i]);
+        expect(is_none(uss_view_show(table, 60, v)) && stands(uss_view_step(table, 60, v), 0, far[i]), "a place that is none");
+        expect(is_none(uss_view_show(NULL, 0, v)) && stands(uss_view_step(NULL, 0, v), 0, far[i]), "a place in no table");
+    }
+    for (i = 0; i < sizeof numbers / sizeof numbers[0]; i++) {
+        v = standing(numbers[i], 2);
+        expect(is_none(uss_view_show(table, 60, v)) && stands(uss_view_step(table, 60, v), numbers[i], 2), "a number that is not 0");
+    }
+    memset(many, 0xFF, 12);
+    expect(stands(uss_view_open(many, 12), USS_BAD_TABLE, 0), "a record of FF");
+    expect(is_record(uss_view_show(many, 12, standing(0, 0)), 32767, 1, 1, 1, 255, 0xFFFFFFFFu, 0xFFFFFFFFu), "its fields, by a forged view");
+    expect(is_none(uss_view_show(table + 1, 59, standing(0, 4))) && stands(uss_view_step(table + 1, 59, standing(0, 4)), 0, 4), "part of a record");
+
+    expect(stands(uss_view_open(NULL, 0), USS_DONE, 0) && is_none(uss_view_show(NULL, 0, standing(0, 0))), "a view of an empty table");
+    expect(stands(uss_view_open(table + 1, 59), USS_BAD_TABLE, 0), "half a record");
+    table[51] |= 1;
+    v = uss_view_open(table, 60);
+    expect(stands(v, USS_BAD_TABLE, 0) && is_none(uss_view_show(table, 60, v)), "a bad last record: nothing is shown");
+    expect(stands(uss_view_step(table, 60, v), USS_BAD_TABLE, 0), "and there is no step");
+
+    for (i = 0; i < 513; i++)
+        put_many(many, i);
+    expect(stands(uss_view_open(many, 12 * 513), USS_BAD_TABLE, 0), "513 records");
+    v = uss_view_open(many, 12 * 512);
+    for (i = 0; i < 512; i++) {
+        expect(stands(v, USS_DONE, (uint32_t)i) && is_record(uss_view_show(many, 12 * 512, v), (uint32_t)i, 0, 0, 0, 8, 0, 0), "512 records");
+        v = uss_view_step(many, 12 * 512, v);
+    }
+    expect(stands(v, USS_DONE, 512) && is_none(uss_view_show(many, 12 * 512, v)), "the end of 512");
+    expect(is_none(uss_view_show(many, 12 * 513, v)) && stands(uss_view_step(many, 12 * 513, v), USS_DONE, 512), "no record behind 512");
+    many[12 * 500 + 3] = 0x40;
+    expect(stands(uss_view_open(many, 12 * 512), USS_BAD_TABLE, 0), "4097 places");
+    puts("views");
 }
 
 /* ---- the receiver */
@@ -532,10 +747,14 @@ static void layouts(void)
 {
     expect(sizeof(uss_setup) == 3 && sizeof(uss_words) == 8 && sizeof(uss_receiver) == 4 && sizeof(uss_received) == 16
            && sizeof(uss_answer) == 16 && sizeof(uss_built) == 8 && sizeof(uss_reply) == 20 && sizeof(uss_table_check) == 16
-           && sizeof(uss_figure) == 16, "sizes");
+           && sizeof(uss_view) == 8 && sizeof(uss_record) == 32 && sizeof(uss_figure) == 16, "sizes");
     expect(offsetof(uss_received, taken) == 0 && offsetof(uss_received, length) == 8 && offsetof(uss_received, receiver) == 12
            && offsetof(uss_receiver, state) == 0, "places of the receiver");
     expect(offsetof(uss_answer, control) == 8 && offsetof(uss_reply, process) == 12, "places");
+    expect(offsetof(uss_view, number) == 0 && offsetof(uss_view, at) == 4, "places of a view");
+    expect(offsetof(uss_record, there) == 0 && offsetof(uss_record, parameter) == 4 && offsetof(uss_record, is_double) == 8
+           && offsetof(uss_record, is_signed) == 12 && offsetof(uss_record, writable) == 16 && offsetof(uss_record, elements) == 20
+           && offsetof(uss_record, minimum) == 24 && offsetof(uss_record, maximum) == 28, "places of a record");
     expect(offsetof(uss_figure, raw) == 4 && offsetof(uss_figure, value) == 8, "places of a figure");
     puts("layouts");
 }
@@ -549,6 +768,9 @@ int main(void)
     lying_lengths();
     empty_slices();
     broken_rules();
+    filled_lists();
+    lent_lists();
+    views();
     received_telegrams();
     received_bytes_that_are_none();
     pages_of_other_lengths();

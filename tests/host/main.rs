@@ -43,6 +43,26 @@ struct TableCheck {
 
 #[repr(C)]
 #[derive(Clone, Copy)]
+struct View {
+    number: u32,
+    at: u32,
+}
+
+#[repr(C)]
+#[derive(Clone, Copy)]
+struct Record {
+    there: u32,
+    parameter: u32,
+    is_double: u32,
+    is_signed: u32,
+    writable: u32,
+    elements: u32,
+    minimum: u32,
+    maximum: u32,
+}
+
+#[repr(C)]
+#[derive(Clone, Copy)]
 struct Receiver {
     state: u32,
 }
@@ -72,6 +92,11 @@ extern "C" {
         setup: Setup, table: *const u8, table_len: usize, values: *mut u32, value_count: usize, control: Words,
         status: Words, received: *const u8, received_len: usize, reply: *mut u8, reply_len: usize,
     ) -> Answer;
+    fn uss_slave_listed(
+        setup: Setup, table: *const u8, table_len: usize, values: *mut u32, value_count: usize, places: *const u16,
+        place_count: usize, control: Words, status: Words, received: *const u8, received_len: usize, reply: *mut u8,
+        reply_len: usize,
+    ) -> Answer;
     fn uss_build_task(
         setup: Setup, task: u8, parameter: u16, index: u8, value: u32, process: Words, out: *mut u8, out_len: usize,
     ) -> Built;
@@ -86,6 +111,10 @@ extern "C" {
     fn uss_list(received: *const u8, received_len: usize, out: *mut u8, out_len: usize) -> u32;
     fn uss_bcc(bytes: *const u8, len: usize) -> u8;
     fn uss_check_table(table: *const u8, table_len: usize, values: *const u32, value_count: usize) -> TableCheck;
+    fn uss_fill_places(table: *const u8, table_len: usize, places: *mut u16, place_count: usize) -> u32;
+    fn uss_view_open(table: *const u8, table_len: usize) -> View;
+    fn uss_view_show(table: *const u8, table_len: usize, view: View) -> Record;
+    fn uss_view_step(table: *const u8, table_len: usize, view: View) -> View;
     fn uss_show_hertz(word: u16, reference: u32) -> Figure;
     fn uss_show_percent(word: u16) -> Figure;
     fn uss_show_raw(word: u16) -> Figure;
@@ -165,6 +194,10 @@ impl Lent {
 
 fn numbers_to_bytes(values: &[u32]) -> Vec<u8> {
     values.iter().flat_map(|v| v.to_ne_bytes()).collect()
+}
+
+fn places_to_bytes(places: &[u16]) -> Vec<u8> {
+    places.iter().flat_map(|p| p.to_ne_bytes()).collect()
 }
 
 // ---- numbers by chance
@@ -259,6 +292,11 @@ fn good_records(d: &mut Dice) -> Vec<model::Record> {
         1 => d.below(100),
         _ => d.below(8),
     };
+    records_of(d, count)
+}
+
+/// So many records of a good table.
+fn records_of(d: &mut Dice, count: u64) -> Vec<model::Record> {
     let mut room = 4096u64;
     let mut number = 0u64;
     let mut found = vec![];
@@ -389,6 +427,45 @@ fn damage_values(d: &mut Dice, records: &[model::Record], values: &mut Vec<u32>)
             _ => records.first().map_or(0, |r| any_value(d, r)),
         };
     }
+}
+
+// ---- lists of first places
+
+/// How a list is wrong.
+const FIRST: u32 = 1;
+const MIDDLE: u32 = 2;
+const LAST: u32 = 3;
+const SHORT: u32 = 4;
+const LONG: u32 = 5;
+const EMPTY: u32 = 6;
+const OTHER: u32 = 7;
+
+/// A list that is wrong in one way, beside the right one; where it cannot be, it is the right one.
+fn wrong_list(d: &mut Dice, right: &[u16]) -> (u32, Vec<u16>) {
+    let how = FIRST + d.below(OTHER as u64) as u32;
+    let mut list = right.to_vec();
+    let off = |d: &mut Dice, place: u16| if d.one_in(2) { place.wrapping_add(1) } else { place.wrapping_sub(1) };
+    match (how, list.len()) {
+        (EMPTY, _) => list.clear(),
+        (SHORT, _) => drop(list.pop()),
+        (LONG, _) => list.push(d.pick(&[0, right.last().map_or(0, |p| p + 1), d.0 as u16])),
+        (OTHER, n) => match d.below(4) {
+            // any numbers; one bit; each record's last place and not its first; one place for each record, array or not
+            0 => list = (0..n).map(|_| d.next() as u16).collect(),
+            1 if n > 0 => list[d.below(n as u64) as usize] ^= 1 << d.below(16),
+            2 if n > 0 => list.rotate_left(1),
+            _ => list = (0..n as u16).collect(),
+        },
+        (_, 0) => {}
+        (FIRST, _) => list[0] = off(d, 0),
+        (LAST, n) => list[n - 1] = off(d, list[n - 1]),
+        (MIDDLE, n) => {
+            let k = if n > 2 { 1 + d.below(n as u64 - 2) as usize } else { n / 2 };
+            list[k] = off(d, list[k]);
+        }
+        _ => unreachable!(),
+    }
+    (how, list)
 }
 
 // ---- telegrams
@@ -658,9 +735,12 @@ impl Counts {
 struct Bench {
     table: Arena,
     values: Arena,
+    places: Arena,
     received: Arena,
     out: Arena,
     counts: Counts,
+    /// For lists alone, so that what else is drawn does not depend on them.
+    lists: Dice,
     /// Items that the receiver took.
     items: u64,
 }
@@ -694,38 +774,82 @@ fn hex(bytes: &[u8]) -> String {
 }
 
 impl Bench {
-    /// One slave call on both sides; the drive takes the new state. Returns the reply.
-    fn slave(&mut self, d: &mut Dice, drive: &mut Drive, received: &[u8], room: usize) -> Vec<u8> {
-        let start = d.one_in(4);
-        let status = d.words();
+    /// One slave call on both sides, with a list or without. Returns what it has to leave, and the values.
+    fn serve(
+        &mut self, start: bool, drive: &Drive, list: Option<&[u16]>, status: Words, received: &[u8], buffer: &[u8],
+    ) -> (model::Served, Vec<u32>) {
         let table = self.table.lend(&drive.table, start);
         let values = self.values.lend(&numbers_to_bytes(&drive.values), start);
+        let places = self.places.lend(&places_to_bytes(list.unwrap_or(&[])), start);
         let got = self.received.lend(received, start);
-        let reply = self.out.lend(&d.bytes(room), start);
+        let reply = self.out.lend(buffer, start);
+        let (numbers, count) = (values.at as *mut u32, drive.values.len());
         let a = unsafe {
-            uss_slave(
-                drive.setup, table.at, table.len, values.at as *mut u32, drive.values.len(), drive.control, status,
-                got.at, got.len, reply.at, reply.len,
-            )
+            match list {
+                None => uss_slave(
+                    drive.setup, table.at, table.len, numbers, count, drive.control, status, got.at, got.len, reply.at, reply.len,
+                ),
+                Some(list) => uss_slave_listed(
+                    drive.setup, table.at, table.len, numbers, count, places.at as *const u16, list.len(), drive.control, status,
+                    got.at, got.len, reply.at, reply.len,
+                ),
+            }
         };
-        let before = drive.values.clone();
-        let want = model::slave(drive.setup, &drive.table, &mut drive.values, drive.control, status, received, room);
+        let mut after = drive.values.clone();
+        let want = model::slave(drive.setup, &drive.table, &mut after, list, drive.control, status, received, buffer.len());
         let good = a.number == want.number
             && a.length as usize == want.reply.len()
             && a.control == want.control
             && values.margin_kept()
-            && values.now() == &numbers_to_bytes(&drive.values)[..]
+            && values.now() == &numbers_to_bytes(&after)[..]
             && reply.starts_with(&want.reply)
             && table.untouched()
+            && places.untouched()
             && got.untouched();
         if !good {
-            differ("uss_slave", format!(
-                "set-up {:?}\ntable {}\nvalues {:X?}\ncontrol {:X?} status {:X?}\nreceived {}\nroom {}\nanswer {} {} {:X?}, expected {} {} {:X?}\nreply {}\nexpected {}\nvalues after {}\nexpected {:X?}",
-                drive.setup, hex(&drive.table), before, drive.control, status, hex(received), room, a.number, a.length,
-                a.control, want.number, want.reply.len(), want.control, hex(&reply.now()[..reply.len.min(40)]),
-                hex(&want.reply), hex(values.now()), drive.values
+            differ(if list.is_some() { "uss_slave_listed" } else { "uss_slave" }, format!(
+                "set-up {:?}\ntable {}\nvalues {:X?}\nlist {:?}\ncontrol {:X?} status {:X?}\nreceived {}\nroom {}\nanswer {} {} {:X?}, expected {} {} {:X?}\nreply {}\nexpected {}\nvalues after {}\nexpected {:X?}",
+                drive.setup, hex(&drive.table), drive.values, list, drive.control, status, hex(received), buffer.len(), a.number,
+                a.length, a.control, want.number, want.reply.len(), want.control, hex(&reply.now()[..reply.len.min(40)]),
+                hex(&want.reply), hex(values.now()), after
             ));
         }
+        (want, after)
+    }
+
+    /// The same call with a right list, which must leave the same, and with a wrong one.
+    fn serve_listed(
+        &mut self, start: bool, drive: &Drive, status: Words, received: &[u8], buffer: &[u8], unlisted: &(model::Served, Vec<u32>),
+    ) {
+        let right = model::records(&drive.table).map_or(vec![], |found| model::first_places(&found));
+        let listed = self.serve(start, drive, Some(&right), status, received, buffer);
+        if listed != *unlisted {
+            differ("uss_slave_listed and uss_slave", format!("table {}\nreceived {}\n{listed:?}, and {unlisted:?}", hex(&drive.table), hex(received)));
+        }
+        self.counts.met("listed answer", listed.0.number);
+        let (how, wrong) = wrong_list(&mut self.lists, &right);
+        if wrong == right {
+            return;
+        }
+        let (refused, values) = self.serve(start, drive, Some(&wrong), status, received, buffer);
+        if !matches!(refused.number, 20 | 21 | 22 | 25) || !refused.reply.is_empty() || values != drive.values {
+            differ("uss_slave_listed with a wrong list", format!("table {}\nlist {wrong:?}\n{refused:?}", hex(&drive.table)));
+        }
+        self.counts.met("listed answer", refused.number);
+        if refused.number == 25 {
+            self.counts.met("wrong list", how);
+        }
+    }
+
+    /// One slave call on both sides; the drive takes the new state. Returns the reply.
+    fn slave(&mut self, d: &mut Dice, drive: &mut Drive, received: &[u8], room: usize) -> Vec<u8> {
+        let start = d.one_in(4);
+        let status = d.words();
+        let buffer = d.bytes(room);
+        let unlisted = self.serve(start, drive, None, status, received, &buffer);
+        self.serve_listed(start, drive, status, received, &buffer, &unlisted);
+        let (want, after) = unlisted;
+        let before = std::mem::replace(&mut drive.values, after);
         drive.control = want.control;
         self.counts.met("slave answer", want.number);
         if want.number == 0 && drive.setup.pkw != 0 {
@@ -894,6 +1018,76 @@ impl Bench {
             differ("uss_check_table", format!("table {}\nvalues {numbers:X?}\n{found:?}, expected {want:?}", hex(bytes)));
         }
         self.counts.met("rule", want[1]);
+    }
+
+    /// Fills a list of `count` places with any contents before.
+    fn fill(&mut self, d: &mut Dice, bytes: &[u8], count: usize) {
+        let start = d.one_in(4);
+        let table = self.table.lend(bytes, start);
+        let places = self.places.lend(&d.bytes(2 * count), start);
+        let number = unsafe { uss_fill_places(table.at, table.len, places.at as *mut u16, count) };
+        let want = model::fill_places(bytes, count);
+        let good = match &want {
+            Ok(list) => number == 0 && places.margin_kept() && places.now() == &places_to_bytes(list)[..],
+            Err(refusal) => number == *refusal && places.untouched(),
+        };
+        if !good || !table.untouched() {
+            differ("uss_fill_places", format!("table {}\nlist of {count}: {number} {}, expected {want:?}", hex(bytes), hex(places.now())));
+        }
+        self.counts.met("fill", number);
+    }
+
+    /// A view from its opening to its end, and views that no call gave.
+    fn view(&mut self, d: &mut Dice, bytes: &[u8]) {
+        let table = self.table.lend(bytes, d.one_in(4));
+        let opened = unsafe { uss_view_open(table.at, table.len) };
+        let mut view = [opened.number, opened.at];
+        if view != model::view_open(bytes) {
+            differ("uss_view_open", format!("table {}\n{view:?}", hex(bytes)));
+        }
+        self.counts.met("view open", view[0]);
+        let mut shown = 0;
+        while self.look(&table, &mut view) {
+            shown += 1;
+        }
+        let records = (bytes.len() / 12) as u32;
+        if shown != if opened.number == 0 { records } else { 0 } {
+            differ("the records of a view", format!("table {}\n{shown}", hex(bytes)));
+        }
+        if opened.number == 0 && [0, 1, 512].contains(&shown) {
+            self.counts.met("records viewed", shown);
+        }
+        for _ in 0..8 {
+            let number = d.pick(&[0, 0, 0, 0, 1, 21, 22, u32::MAX, d.0 as u32]);
+            let at = match d.below(4) {
+                0 => d.next() as u32,
+                1 => d.below(600) as u32,
+                2 => (records + d.below(3) as u32).wrapping_sub(1),
+                _ => d.pick(&[0, 511, 512, 513, 0x1555_5555, 0x1555_5556, 1 << 31, u32::MAX - 1, u32::MAX]),
+            };
+            self.look(&table, &mut [number, at]);
+        }
+        if !table.untouched() {
+            differ("a view", format!("table {} was written to", hex(bytes)));
+        }
+    }
+
+    /// Shows and steps on both sides; whether there was a record.
+    fn look(&mut self, table: &Lent, view: &mut model::View) -> bool {
+        let given = View { number: view[0], at: view[1] };
+        let r = unsafe { uss_view_show(table.at, table.len, given) };
+        let next = unsafe { uss_view_step(table.at, table.len, given) };
+        let shown = [r.there, r.parameter, r.is_double, r.is_signed, r.writable, r.elements, r.minimum, r.maximum];
+        let want = (model::view_show(&table.given, *view), model::view_step(&table.given, *view));
+        if (shown, [next.number, next.at]) != want {
+            differ("uss_view_show, uss_view_step", format!(
+                "table {}\nview {view:?}: {shown:X?} {} {}, expected {want:X?}", hex(&table.given), next.number, next.at
+            ));
+        }
+        *view = want.1;
+        self.counts.met("view show", r.there);
+        self.counts.met("view step", (next.at != given.at) as u32);
+        r.there == 1
     }
 }
 
@@ -1081,6 +1275,28 @@ fn slips(b: &mut Bench, d: &mut Dice) {
     b.check_table(d, &table, &values);
 }
 
+/// A table, good or with a slip: lists of right and wrong lengths filled from it, and views of it.
+fn tables(b: &mut Bench, d: &mut Dice) {
+    let Drive { mut records, mut table, mut values, .. } = any_drive(d);
+    if d.one_in(30) {
+        let count = d.pick(&[0, 1, 512]);
+        records = records_of(d, count);
+        table = records.iter().flat_map(|r| r.bytes(0)).collect();
+    } else if table.len() == 12 * records.len() && d.one_in(8) {
+        damage_table(d, &records, &mut table, &mut values);
+    }
+    let whole = table.len() / 12;
+    b.fill(d, &table, whole);
+    let count = match d.below(4) {
+        0 => whole + 1,
+        1 => whole.saturating_sub(1),
+        2 => 0,
+        _ => d.below(520) as usize,
+    };
+    b.fill(d, &table, count);
+    b.view(d, &table);
+}
+
 /// A line of items from any state and page, cut into calls in any way, with what was not taken fed again: what is handed out, the end
 /// state and the page are those of the whole list.
 fn line(b: &mut Bench, d: &mut Dice) {
@@ -1149,9 +1365,11 @@ fn main() {
     let mut b = Bench {
         table: Arena::new(3),
         values: Arena::new(6),
+        places: Arena::new(2),
         received: Arena::new(2),
         out: Arena::new(2),
         counts: Counts::default(),
+        lists: Dice(seed.rotate_left(32)),
         items: 0,
     };
     figures(&mut b);
@@ -1164,6 +1382,7 @@ fn main() {
         conversation(&mut b, &mut d);
         orders(&mut b, &mut d);
         slips(&mut b, &mut d);
+        tables(&mut b, &mut lines);
         for _ in 0..4 {
             let n = d.below(320) as usize;
             let bytes = d.bytes(n);
@@ -1174,9 +1393,14 @@ fn main() {
     let c = &b.counts;
     let receiving: u64 = ["receive", "receive bytes", "pause"].iter().map(|w| c.total(w)).sum();
     let showing: u64 = ["show hertz", "show percent", "show raw"].iter().map(|w| c.total(w)).sum();
-    let others = ["slave answer", "build task", "build mirror", "build broadcast", "read", "list", "bcc", "rule"];
-    let calls: u64 = receiving + showing + others.iter().map(|w| c.total(w)).sum::<u64>();
+    let viewing: u64 = ["view open", "view show", "view step"].iter().map(|w| c.total(w)).sum();
+    let others = ["slave answer", "listed answer", "build task", "build mirror", "build broadcast", "read", "list", "bcc", "rule", "fill"];
+    let calls: u64 = receiving + showing + viewing + others.iter().map(|w| c.total(w)).sum::<u64>();
     println!("calls {calls}, of them {} of the slave", c.total("slave answer"));
+    println!(
+        "lists: calls of the slave with a list {}, of them {} with a wrong one after 22; lists filled {}; views: calls {viewing}",
+        c.total("listed answer"), c.total("wrong list"), c.count("fill", 0)
+    );
     println!("figures: calls {showing}, each of 65536 words at 9 references, as percent and raw, and random pairs");
     let handed_out = c.count("receive", 3) + c.count("receive bytes", 3);
     println!("receiver: items {}, calls {receiving}, telegrams handed out {handed_out}", b.items);
@@ -1184,6 +1408,9 @@ fn main() {
     let floor = 1000 * rounds / 100_000;
     let mut good = true;
     good &= c.report("slave answer", &[0, 1, 2, 10, 11, 12, 13, 14, 15, 16, 17, 18, 20, 21, 22, 23], floor);
+    good &= c.report("listed answer", &[0, 1, 2, 10, 11, 12, 13, 14, 15, 16, 17, 18, 20, 21, 22, 23, 25], floor);
+    // an entry off by one: the first, one in the middle, the last; one place short, one too many, none; any other
+    good &= c.report("wrong list", &(FIRST..=OTHER).collect::<Vec<u32>>(), floor);
     good &= c.report("task in a reply", &(0..16).collect::<Vec<u32>>(), floor);
     good &= c.report("reply ID", &[0, 1, 2, 4, 5, 6, 7], floor);
     good &= c.report("parameter error", &[0, 1, 2, 3, 4, 5, 102, 106], floor);
@@ -1201,6 +1428,12 @@ fn main() {
     good &= c.report("list", &[0, 1, 2, 10, 11, 12, 13, 14, 15, 99], floor);
     good &= c.report("bcc", &[0], floor);
     good &= c.report("rule", &(0..12).collect::<Vec<u32>>(), floor);
+    good &= c.report("fill", &[0, 21, 25], floor);
+    good &= c.report("view open", &[0, 21], floor);
+    good &= c.report("records viewed", &[0, 1, 512], floor);
+    // 1: there was a record; the view went on
+    good &= c.report("view show", &[0, 1], floor);
+    good &= c.report("view step", &[0, 1], floor);
     // the state left: 0 disarmed, 1 armed, 2 inside a telegram; 3: a telegram was handed out
     good &= c.report("receive", &[0, 1, 2, 3], floor);
     good &= c.report("receive bytes", &[0, 1, 2, 3], floor);

@@ -1,5 +1,5 @@
-//! Document 01, and the receiver of W-201, a second time, written from their text alone, to compare the library with. Everything is plain
-//! and slow.
+//! Document 01, and the requests of document 02 that have landed, a second time, written from their text alone, to compare the library
+//! with. Everything is plain and slow.
 
 #[repr(C)]
 #[derive(Clone, Copy, PartialEq, Eq, Debug)]
@@ -16,6 +16,7 @@ pub struct Words {
 }
 
 /// What a slave call has to leave.
+#[derive(PartialEq, Eq, Debug)]
 pub struct Served {
     pub number: u32,
     pub reply: Vec<u8>,
@@ -208,6 +209,48 @@ pub fn check_table(table: &[u8], values: &[u32]) -> [u32; 4] {
     }
 }
 
+// ---- first places, and views of a table (document 02, W-205)
+
+/// One place for each record: how many places the records before it have in all.
+pub fn first_places(records: &[Record]) -> Vec<u16> {
+    let (mut before, mut found) = (0, vec![]);
+    for r in records {
+        found.push(before as u16);
+        before += r.places();
+    }
+    found
+}
+
+/// The list that filling writes, for a lent list of `count` places; or 21, or 25.
+pub fn fill_places(table: &[u8], count: usize) -> Result<Vec<u16>, u32> {
+    let found = records(table).ok_or(21u32)?;
+    if found.len() == count { Ok(first_places(&found)) } else { Err(25) }
+}
+
+/// A view's number and the record that it stands at.
+pub type View = [u32; 2];
+
+pub fn view_open(table: &[u8]) -> View {
+    [if records(table).is_some() { 0 } else { 21 }, 0]
+}
+
+/// The record that a view stands at, by its place among the whole records of the table, of which there are at most 512.
+fn viewed(table: &[u8], view: View) -> Option<Record> {
+    let mut whole = table.chunks_exact(12).take(512);
+    if view[0] != 0 { None } else { whole.nth(view[1] as usize).map(|c| take_apart(c).0) }
+}
+
+/// There, number, double, signed, writable, elements, minimum, maximum; all 0 where there is none.
+pub fn view_show(table: &[u8], view: View) -> [u32; 8] {
+    viewed(table, view).map_or([0; 8], |r| {
+        [1, r.number, r.double as u32, r.signed as u32, r.writable as u32, r.elements, r.min, r.max]
+    })
+}
+
+pub fn view_step(table: &[u8], view: View) -> View {
+    if viewed(table, view).is_some() { [0, view[1] + 1] } else { view }
+}
+
 // ---- tasks
 
 #[derive(Clone, Copy, PartialEq, Eq)]
@@ -332,10 +375,12 @@ fn void(s: Setup, net: &[u16]) -> bool {
         || pkw == 4 && net[3] != 0
 }
 
+/// With a list, where one is lent.
 pub fn slave(
     s: Setup,
     table: &[u8],
     values: &mut [u32],
+    list: Option<&[u16]>,
     control: Words,
     status: Words,
     received: &[u8],
@@ -348,6 +393,9 @@ pub fn slave(
     let Some(records) = records(table) else { return refuse(21) };
     if !values_good(&records, values) {
         return refuse(22);
+    }
+    if list.map_or(false, |places| places != first_places(&records)) {
+        return refuse(25);
     }
     if room < 256 {
         return refuse(23);

@@ -10,9 +10,9 @@ import header
 # what the driver draws with care: name -> type; of slices the element's type
 DRAWN = {"setup": "uss_setup", "control": "uss_words", "status": "uss_words", "process": "uss_words", "task": "uint8_t",
          "parameter": "uint16_t", "index": "uint8_t", "value": "uint32_t", "selector": "uint16_t", "mask1": "uint16_t",
-         "mask2": "uint16_t", "receiver": "uss_receiver", "reference": "uint32_t"}
+         "mask2": "uint16_t", "receiver": "uss_receiver", "reference": "uint32_t", "view": "uss_view"}
 SLICES = {"table": "uint8_t", "values": "uint32_t", "received": "uint8_t", "net": "uint8_t", "bytes": "uint8_t", "reply": "uint8_t",
-          "out": "uint8_t", "items": "uint16_t", "page": "uint8_t"}
+          "out": "uint8_t", "items": "uint16_t", "page": "uint8_t", "places": "uint16_t"}
 
 
 def leaves(head, type_, place):

@@ -122,7 +122,7 @@ def library(name):
 
 
 # what an object may ask of the compiler's own library: docs/CHIPS.md says which does
-ASKED = {"memcpy", "__aeabi_memcpy", "__aeabi_uidiv", "__aeabi_uidivmod"}
+ASKED = {"memcpy", "__aeabi_memcpy", "__aeabi_uidiv", "__aeabi_uidivmod", "__aeabi_lmul"}
 # what the calls with doubles, and no other, ask for where the chip computes none: the whole number as a double, and the product
 DOUBLES = {**dict.fromkeys(BOARDS, ["__aeabi_dmul", "__aeabi_i2d"]), "riscv32": ["__floatsidf", "__muldf3"]}
 WITH_DOUBLES = {"uss_show_hertz.o", "uss_show_percent.o"}

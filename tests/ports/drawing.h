@@ -40,7 +40,27 @@ static uint32_t draw_value(uint32_t kind, uint32_t low, uint32_t high)
     return rank(kind, draw(3) == 0 ? from : draw(2) ? to : from + ((to - from) >> (1 + draw(8))));
 }
 
-/* A table that is good but for chance damage, with values to go with it; gives a number to ask for. */
+/* The list of the table's first places, right but for chance damage, and a view that stands at a record, about the end or anywhere. */
+static void draw_places(uint32_t records)
+{
+    uint32_t k;
+    put_places(records);
+    drawn.places.at = places;
+    drawn.places.count = records;
+    if (draw(20) == 0)
+        drawn.places.count = draw(3) == 0 ? 0 : draw(2) ? records + 1 : records - (records > 0);
+    if (draw(12) == 0 && records > 0) {
+        k = draw(3) == 0 ? 0 : draw(2) ? records - 1 : draw(records);
+        places[k] = (uint16_t)(draw(3) == 0 ? places[k] ^ 1u << draw(16) : draw(2) ? places[k] + 1 : places[k] - 1);
+    }
+    if (draw(12) == 0)
+        for (k = 0; k <= records; k++)
+            places[k] = (uint16_t)draw_word();
+    drawn.view.number = draw(8) != 0 ? 0 : draw(2) ? USS_BAD_TABLE : draw_bits();
+    drawn.view.at = draw(3) != 0 ? draw(records + 2) : draw(2) ? 510 + draw(4) : draw_bits();
+}
+
+/* A table that is good but for chance damage, with values and a list to go with it; gives a number to ask for. */
 static uint32_t draw_table(void)
 {
     uint32_t records = draw(7), k, i, number = draw(3) == 0 ? 0 : draw(4000), asked = draw(32768), count = 0, damaged;
@@ -85,6 +105,7 @@ static uint32_t draw_table(void)
     values[count] = draw_word();
     drawn.values.at = values;
     drawn.values.count = draw(40) == 0 ? count + draw(2) : draw(40) == 0 && count > 0 ? count - 1 : count;
+    draw_places(records);
     return asked;
 }
 

@@ -1,7 +1,7 @@
 /* Runs the library's calls on one machine and writes all that they give to a stream, which is to be the same on every machine: the
  * known telegrams of document 01, each answer number, parameter error and rule of a table, the edges of pages, limits, lengths,
- * tables, buffers, lines and figures, and random calls of each function of uss.h. It needs no C library. calls.h, which follows from
- * uss.h, lends, calls and writes.
+ * tables, buffers, lines, figures, lists and views, and random calls of each function of uss.h. It needs no C library. calls.h, which
+ * follows from uss.h, lends, calls and writes.
  *
  * The stream is made of records: what it is (0 a check, else the call's place in uss.h), its length in four bytes, low first, and
  * its contents: of a check 0 or 1 and its name; of a call the fields of its answer, then for each slice that cannot be written
@@ -44,9 +44,10 @@ static struct {
     uint16_t parameter, selector, mask1, mask2;
     uint32_t value, reference;
     uss_receiver receiver;
+    uss_view view;
     struct bytes table, received, net, bytes, reply, out, page;
     struct numbers values;
-    struct items items;
+    struct items items, places;
     uint64_t any[ARENAS][40];
 } drawn;
 
@@ -107,6 +108,8 @@ int driver(void)
     known_rules();
     known_lines();
     known_figures();
+    known_lists();
+    known_views();
     answer_numbers();
     parameter_errors();
     edges_of_setups();
@@ -122,6 +125,8 @@ int driver(void)
     edges_of_states();
     edges_of_lines();
     edges_of_figures();
+    edges_of_lists();
+    edges_of_views();
     for (seed = 1; seed <= SEEDS; seed++) {
         state = seed * 0x9E3779B9u;
         for (i = 0; i < DRAWS_PER_SEED; i++)

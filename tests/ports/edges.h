@@ -1,5 +1,5 @@
 /* A part of driver.c: the edges of set-ups, frames, buffers, tasks, pages, limits, tables, broadcasts, requests, replies, states of a
- * receiver, lines and figures. */
+ * receiver, lines, figures, lists and views. */
 
 /* ---- edges */
 
@@ -156,11 +156,17 @@ static size_t put_table(uint32_t records, uint32_t elements)
     return count;
 }
 
-/* The slave call, and the check of its table and values. */
+/* The slave call without a list and with one, the check of its table and values, and the filling. */
 static void serve_and_check(uint32_t records, size_t count, size_t len)
 {
+    uint32_t k;
     serve(usual, records, count, len);
+    put_places(records);
+    serve_listed(records, count, records, len);
     do_uss_check_table(table, 12 * records, values, count);
+    for (k = 0; k < records; k++)
+        places[k] = 0xEEEE;
+    do_uss_fill_places(table, 12 * records, places, records);
 }
 
 /* Tables about 512 records and 4096 values, cut ones, and each rule broken by one bit. */
@@ -329,5 +335,50 @@ static void edges_of_figures(void)
             do_uss_show_hertz(ends[i], references[k]);
         do_uss_show_percent(ends[i]);
         do_uss_show_raw(ends[i]);
+    }
+}
+
+/* Lists of every length about that of the table, and each entry with each bit changed. */
+static void edges_of_lists(void)
+{
+    static const uint16_t records[5] = {0, 1, 2, 511, 512};
+    uint32_t i, k, bit;
+    for (i = 0; i < 5; i++) {
+        size_t count = put_table(records[i], i & 1 ? 8 : 0), len = put_telegram(usual, 3, head_of(USS_READ, 62 * i, 0), 0, held);
+        for (k = 0; k < 4; k++) {
+            size_t place_count = k == 3 ? 0 : records[i] + k - (records[i] > 0);
+            put_places(records[i]);
+            serve_listed(records[i], count, place_count, len);
+            do_uss_fill_places(table, 12 * records[i], places, place_count);
+        }
+    }
+    for (i = 0; i < 3; i++) {
+        size_t count = put_table(3, 2), len = put_telegram(usual, 3, head_of(USS_READ, 62 * i, 1), 0, held);
+        for (bit = 0; bit <= 16; bit++) {
+            put_places(3);
+            places[i] ^= (uint16_t)(1u << bit);
+            serve_listed(3, count, 3, len);
+        }
+    }
+}
+
+/* Views at the ends of tables of every length about the limits, and numbers that no call gave. */
+static void edges_of_views(void)
+{
+    static const uint16_t records[5] = {0, 1, 511, 512, 513};
+    static const uint32_t places_of_views[10] = {0, 1, 510, 511, 512, 513, 0x15555555u, 0x15555556u, 0x80000000u, 0xFFFFFFFFu};
+    static const uint32_t numbers[5] = {0, 1, 21, 0x80000000u, 0xFFFFFFFFu};
+    uint32_t i, k, n;
+    for (i = 0; i < 5; i++) {
+        size_t count = 12 * records[i];
+        put_table(records[i], 0);
+        do_uss_view_open(table, count);
+        do_uss_view_open(table, count + 11);
+        for (k = 0; k < 10; k++)
+            for (n = 0; n < 5; n++) {
+                do_uss_view_show(table, count, view_of(numbers[n], places_of_views[k]));
+                do_uss_view_show(table, count + 11, view_of(numbers[n], places_of_views[k]));
+                do_uss_view_step(table, count, view_of(numbers[n], places_of_views[k]));
+            }
     }
 }

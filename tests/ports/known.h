@@ -1,5 +1,5 @@
-/* A part of driver.c: the known telegrams of document 01, the index in plain tasks, lines for the receiver, figures for a panel, each
- * answer number, each parameter error. */
+/* A part of driver.c: the known telegrams of document 01, the index in plain tasks, lines for the receiver, figures for a panel, lists
+ * of first places, views of a table, each answer number, each parameter error. */
 
 /* ---- known telegrams: K1 to K12 of document 01 */
 
@@ -324,6 +324,103 @@ static void known_figures(void)
     check("every word", holds);
 }
 
+/* ---- lists of first places, views of a table */
+
+/* 700: one value; 701: three; 702: one; 703: an array of one. */
+static void four_records(void)
+{
+    uint32_t i;
+    put_record(0, 700, 0, WRITABLE, 0, 0, 99);
+    put_record(1, 701, SIGNED, 0, 3, 0xFF9C, 100);
+    put_record(2, 702, DOUBLE, WRITABLE, 0, 0, 0xFFFFFFFFu);
+    put_record(3, 703, SIGNED | DOUBLE, WRITABLE, 1, 0xFFFEEE90u, 70000);
+    for (i = 0; i < 6; i++)
+        values[i] = 10 + i;
+}
+
+/* The slave on `page` with the first `place_count` places of the list, over the first `records` records of the table. */
+static uss_answer serve_listed(uint32_t records, size_t count, size_t place_count, size_t len)
+{
+    return do_uss_slave_listed(usual, table, 12 * records, values, count, places, place_count, held, status, page, len, room, 256);
+}
+
+/* The number of a call without a byte received and without room for a reply. */
+static uint32_t opening_of(uss_setup s, size_t table_len, size_t count, size_t place_count)
+{
+    return do_uss_slave_listed(s, table, table_len, values, count, places, place_count, held, status, page, 0, room, 0).number;
+}
+
+static void known_lists(void)
+{
+    static const uint16_t right[4] = {0, 1, 4, 5};
+    size_t len, i;
+    int holds = 1;
+
+    four_records();
+    for (i = 0; i < 5; i++)
+        places[i] = 0xEEEE;
+    check("no list is filled", do_uss_fill_places(table, 48, places, 3) == USS_BAD_PLACES
+          && do_uss_fill_places(table, 36, places, 4) == USS_BAD_PLACES && do_uss_fill_places(table, 47, places, 3) == USS_BAD_TABLE
+          && do_uss_fill_places(table, 48, places, 0) == USS_BAD_PLACES && places[0] == 0xEEEE && places[3] == 0xEEEE);
+    check("a list is filled", do_uss_fill_places(table, 48, places, 4) == USS_DONE && places[4] == 0xEEEE);
+    for (i = 0; i < 4; i++)
+        holds &= places[i] == right[i];
+    check("its places", holds);
+    len = put_telegram(usual, 3, head_of(USS_CHANGE_DOUBLE, 703, 0), 77, words(0x047F, 0x2000, 0, 0));
+    check("a place by the list", serve_listed(4, 6, 4, len).number == USS_REPLIED && replied(USS_ID_DOUBLE, 77) && values[5] == 77
+          && values[4] == 14);
+    for (i = 0; i < 4; i++) {
+        places[i]++;
+        holds &= serve_listed(4, 6, 4, len).number == USS_BAD_PLACES;
+        places[i]--;
+    }
+    holds &= serve_listed(4, 6, 3, len).number == USS_BAD_PLACES && serve_listed(4, 6, 5, len).number == USS_BAD_PLACES;
+    check("a wrong list", holds && serve_listed(4, 6, 0, len).number == USS_BAD_PLACES && serve_listed(0, 0, 1, len).number == USS_BAD_PLACES);
+    check("20, 21, 22, 25, 23", opening_of(setup_of(32, 4, 2), 47, 5, 0) == USS_BAD_SETUP && opening_of(usual, 47, 5, 0) == USS_BAD_TABLE
+          && opening_of(usual, 48, 5, 0) == USS_BAD_VALUES && opening_of(usual, 48, 6, 0) == USS_BAD_PLACES
+          && opening_of(usual, 48, 6, 4) == USS_SHORT_REPLY);
+    holds = do_uss_fill_places(table, 0, places, 0) == USS_DONE && serve_listed(0, 0, 0, len).number == USS_REPLIED;
+    check("no records and no places", holds && replied(USS_ID_ERROR, USS_NO_PARAMETER));
+}
+
+static int is_view(uss_view v, uint32_t number, uint32_t at)
+{
+    return v.number == number && v.at == at;
+}
+
+static int is_none(uss_record r)
+{
+    return (r.there | r.parameter | r.is_double | r.is_signed | r.writable | r.elements | r.minimum | r.maximum) == 0;
+}
+
+static int is_record(uss_record r, uint32_t parameter, uint32_t kind, uint32_t writable, uint32_t elements, uint32_t low, uint32_t high)
+{
+    return r.there == 1 && r.parameter == parameter && r.is_double == kind / 2 && r.is_signed == kind % 2 && r.writable == writable
+           && r.elements == elements && r.minimum == low && r.maximum == high;
+}
+
+static void known_views(void)
+{
+    uss_view v, none = view_of(0, 0xFFFFFFFFu);
+    int holds;
+
+    four_records();
+    v = do_uss_view_open(table, 48);
+    check("the first record", is_view(v, 0, 0) && is_record(do_uss_view_show(table, 48, v), 700, 0, 1, 0, 0, 99));
+    v = do_uss_view_step(table, 48, v);
+    check("the second record", is_view(v, 0, 1) && is_record(do_uss_view_show(table, 48, v), 701, SIGNED, 0, 3, 0xFF9C, 100));
+    v = view_of(0, 3);
+    check("the last record", is_record(do_uss_view_show(table, 48, v), 703, SIGNED | DOUBLE, 1, 1, 0xFFFEEE90u, 70000));
+    v = do_uss_view_step(table, 48, v);
+    check("the end", is_view(v, 0, 4) && is_none(do_uss_view_show(table, 48, v)) && is_view(do_uss_view_step(table, 48, v), 0, 4));
+    v = do_uss_view_open(table, 47);
+    check("a bad table", is_view(v, USS_BAD_TABLE, 0) && is_none(do_uss_view_show(table, 48, v))
+          && is_view(do_uss_view_step(table, 48, v), USS_BAD_TABLE, 0));
+    holds = is_none(do_uss_view_show(table, 48, none)) && is_view(do_uss_view_step(table, 48, none), 0, 0xFFFFFFFFu);
+    holds &= is_none(do_uss_view_show(table, 47, view_of(0, 3))) && is_none(do_uss_view_show(table, 48, view_of(1, 0)));
+    check("views that are none", holds && is_none(do_uss_view_show(table, 0, view_of(0, 0))));
+}
+
 /* ---- each answer number, each parameter error */
 
 static void answer_numbers(void)
@@ -337,6 +434,7 @@ static void answer_numbers(void)
     SEEN(USS_BAD_TABLE, do_uss_slave(usual, table, 11, values, 1, held, status, page, len, room, 256).number);
     SEEN(USS_BAD_VALUES, serve(usual, 1, 0, len).number);
     SEEN(USS_SHORT_REPLY, do_uss_slave(usual, table, 12, values, 1, held, status, page, len, room, 255).number);
+    SEEN(USS_BAD_PLACES, serve_listed(1, 1, 0, len).number);
     SEEN(USS_SHORT, serve(usual, 1, 1, 4).number);
     SEEN(USS_COUNT, serve(usual, 1, 1, len - 1).number);
     SEEN(USS_OTHER_NODE, serve(setup_of(4, 4, 2), 1, 1, len).number);

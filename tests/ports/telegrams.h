@@ -4,7 +4,7 @@
 
 static uint8_t table[12 * MOST_RECORDS + 12], page[300], room[300];
 static uint32_t values[MOST_VALUES];
-static uint16_t line[320];
+static uint16_t line[320], places[MOST_RECORDS + 2];
 
 static void put_be(uint8_t *p, uint32_t word)
 {
@@ -29,6 +29,17 @@ static void put_record(uint32_t k, uint32_t number, uint32_t kind, uint32_t writ
     put_be(table + 12 * k, number << 17 | kind << 15 | writable | elements << 6);
     put_be(table + 12 * k + 4, low);
     put_be(table + 12 * k + 8, high);
+}
+
+/* The first places of the first records of the table, and one behind them. */
+static void put_places(uint32_t records)
+{
+    uint32_t k, place = 0, elements;
+    for (k = 0; k <= records; k++) {
+        places[k] = (uint16_t)place;
+        elements = get_be(table + 12 * k) >> 6 & 0xFF;
+        place += elements == 0 ? 1 : elements;
+    }
 }
 
 /* Start, LGE, address and BCC of a telegram of `len` bytes. */
@@ -106,6 +117,14 @@ static uss_receiver in_state(uint32_t number)
     uss_receiver r;
     r.state = number;
     return r;
+}
+
+static uss_view view_of(uint32_t number, uint32_t at)
+{
+    uss_view v;
+    v.number = number;
+    v.at = at;
+    return v;
 }
 
 static void fill_room(uint32_t byte)

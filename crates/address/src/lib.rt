@@ -1,7 +1,7 @@
 // The address byte and the decoded telegram (document 01, Frame and answer number 15).
 ghost use mathlib.Core.Path.{_≡_};
 ghost use Rattle.frame.specs.Frame.{frameNumber};
-ghost use Rattle.address.specs.Address.{addressOf, kindOf, decodedOf, faultNumber};
+ghost use Rattle.address.specs.Address.{addressOf, kindOf, decodedOf, faultNumber, decodedFrom, adrOf};
 use frame::FrameCheck;
 use frame::FrameFault;
 
@@ -33,26 +33,21 @@ pub enum Decoded {
     Unread(Fault),
 }
 
-// The address byte by its bits: 0 to 4 node, 5 broadcast, 6 mirror, 7 must be 0; 5 and 6 together are refused.
+// The address byte by its bits: 0 to 4 node, 5 broadcast, 6 mirror, 7 must be 0; 5 and 6 together are refused. So under 32 it names a
+// node, under 64 all, under 96 a node's mirror, and else nobody.
 fn read_address(adr: u8) -> Address
     ensures { λ r. ⌜ r ≡ addressOf adr ⌝ }
 {
-    let node = adr % 32;
-    let to_all = adr / 32 % 2;
-    let to_mirror = adr / 64 % 2;
-    if 128 <= adr {
-        return Address::ToNone;
+    if adr < 32 {
+        return Address::ToOne(adr);
     }
-    if to_all == 1 {
-        if to_mirror == 1 {
-            return Address::ToNone;
-        }
+    if adr < 64 {
         return Address::ToAll;
     }
-    if to_mirror == 1 {
-        return Address::ToMirror(node);
+    if adr < 96 {
+        return Address::ToMirror(adr - 64);
     }
-    Address::ToOne(node)
+    Address::ToNone
 }
 
 // What an address makes of a sound telegram whose net bytes end before net_end.
@@ -71,14 +66,26 @@ fn kind(address: Address, net_end: usize) -> Decoded
     }
 }
 
-// The received bytes as a telegram: 10 to 15, then its kind.
+// What the frame check found, and the address byte, as a telegram: 10 to 15, then its kind. A byte that is not there is 0.
+pub fn decode_found(found: FrameCheck, received: &[u8]) -> Decoded
+    ensures { λ r. ⌜ r ≡ decodedFrom found (adrOf (now (received .entry))) ⌝ }
+{
+    match found {
+        FrameCheck::Broken(fault) => Decoded::Unread(Fault::InFrame(fault)),
+        FrameCheck::Sound { net_end } => {
+            if received.len() < 3 {
+                return kind(read_address(0), net_end);
+            }
+            kind(read_address(received[2]), net_end)
+        }
+    }
+}
+
+// The received bytes as a telegram.
 pub fn decode(received: &[u8]) -> Decoded
     ensures { λ r. ⌜ r ≡ decodedOf (now (received .entry)) ⌝ }
 {
-    match frame::check(received) {
-        FrameCheck::Broken(fault) => Decoded::Unread(Fault::InFrame(fault)),
-        FrameCheck::Sound { net_end } => kind(read_address(received[2]), net_end),
-    }
+    decode_found(frame::check(received), received)
 }
 
 // The document's number of a fault of the frame check.

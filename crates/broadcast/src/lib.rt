@@ -37,13 +37,11 @@ pub fn is_void(command: Command, pkw: u8, pzd: u8, first: u16) -> bool
     if selector / 8 != 0 {
         return true;
     }
-    if selector / 4 % 2 == 1 {
-        if pzd < 2 {
-            return true;
-        }
-    }
     if command.fourth != 0 {
         return true;
+    }
+    if selector / 4 % 2 == 1 {
+        return pzd < 2;
     }
     false
 }

@@ -11,6 +11,7 @@ use Rattle.area.specs.declared.Area.{Area}
 use Rattle.area.specs.Net.{wordsOf}
 use Rattle.net.specs.Telegram.{telegramOf}
 use Rattle.slave.specs.Perform.{performOf}
+use Rattle.opening.specs.Lent.{Unlisted}
 use Rattle.slave.specs.Slave.{Outcome, sentBy, callOf}
 use Rattle.request.specs.declared.Request.{Request}
 use Rattle.master.specs.Build.{taskArea, builtOf}
@@ -52,7 +53,7 @@ k2 = (built request1082, 0 ∷ 16 ∷ task1082 0x0E 0x7A)
 
 abbrev pub call : List ℕ → List ℕ → List ℕ → Outcome
 call table values received =
-    callOf (record { setup = setup; table = table; memory = record { values = values }; control = twoWords 0 0; status = status; received = received; buffer = buffer })
+    callOf (record { setup = setup; table = table; memory = record { values = values }; list = Unlisted; control = twoWords 0 0; status = status; received = received; buffer = buffer })
 
 -- the answer's number, the reply's length, and the reply
 abbrev pub shown : Outcome → List ℕ
@@ -115,7 +116,7 @@ broadcast selector mask first second =
 -- the answer's number, the reply's length, and the four control words, from 047E 1111
 abbrev pub commanded : List ℕ → List ℕ
 commanded received =
-    let o = callOf (record { setup = setup; table = []; memory = record { values = [] }; control = twoWords 0x047E 0x1111; status = status; received = received; buffer = buffer }) in
+    let o = callOf (record { setup = setup; table = []; memory = record { values = [] }; list = Unlisted; control = twoWords 0x047E 0x1111; status = status; received = received; buffer = buffer }) in
     answerNumber (o .served .answer) ∷ o .served .length ∷ wordsOf (o .served .control)
 
 abbrev pub k9 : Case

@@ -19,7 +19,7 @@ use Rattle.address.specs.declared.Decoded.the-variants.{Unread}
 use Rattle.opening.specs.declared.Opening.{Opening}
 use Rattle.opening.specs.declared.Opening.the-variants.{Passed, Closed}
 use Rattle.slave_answers.specs.declared.OpeningFault.{OpeningFault}
-use Rattle.slave_answers.specs.declared.OpeningFault.the-variants.{BadSetup, BadTable, BadValues, ShortBuffer}
+use Rattle.slave_answers.specs.declared.OpeningFault.the-variants.{BadSetup, BadTable, BadValues, BadPlaces, ShortBuffer}
 use Rattle.slave_answers.specs.SlaveNumbers.{openingNumber, answerNumber}
 use Rattle.slave.specs.Slave.{Call, openingAt, callOf}
 use Rattle.slave.proofs.CaseLaws.{executed, called}
@@ -30,6 +30,7 @@ use Rattle.claims_receiver.proofs.HandedOut.{whole-counted}
 
 opening-above : (f : OpeningFault) → 13 < openingNumber f
 opening-above BadSetup = lit< tt
+opening-above BadPlaces = lit< tt
 opening-above BadTable = lit< tt
 opening-above BadValues = lit< tt
 opening-above ShortBuffer = lit< tt

@@ -3,14 +3,14 @@
 --     readings1082    each telegram with its reading
 use mathlib.Core.List.{List, [], _∷_}
 use Prim.Native.Nat.{ℕ}
-use Rattle.opening.specs.Lent.{Lent}
+use Rattle.opening.specs.Lent.{Lent, Unlisted}
 use Rattle.read_answers.specs.declared.Content.the-variants.{Value, Failed}
 use Rattle.read_answers.specs.declared.ReadAnswer.the-variants.{Read}
 use Rattle.reply.specs.declared.Reading.{Reading}
 use Rattle.claims_known.specs.Telegrams.{setup, status, table1082, value1082, error1082}
 
 abbrev pub lent1082 : Lent
-lent1082 = record { setup = setup; table = table1082; memory = record { values = 5000 ∷ [] }; room = 256 }
+lent1082 = record { setup = setup; table = table1082; memory = record { values = 5000 ∷ [] }; list = Unlisted; room = 256 }
 
 abbrev pub readings1082 : List (List ℕ × Reading)
 readings1082 =

@@ -17,6 +17,7 @@ use Rattle.receiver.proofs.receive_bytes.Reads as receiver-receive-bytes
 use Rattle.receiver.proofs.pause.Reads as receiver-pause
 use Rattle.frame.proofs.check.Reads as frame-check
 use Rattle.address.proofs.decode.Reads as address-decode
+use Rattle.address.proofs.decode_found.Reads as address-decode-found
 use Rattle.address.proofs.number_fault.Reads as address-number-fault
 use Rattle.slave_answers.proofs.number_opening.Reads as slave-answers-number-opening
 use Rattle.slave_answers.proofs.number_answer.Reads as slave-answers-number-answer
@@ -37,6 +38,12 @@ use Rattle.table.proofs.record_of.Reads as table-record-of
 use Rattle.table.proofs.find.Reads as table-find
 use Rattle.opening.proofs.«open».Reads as opening-open
 use Rattle.table_check.proofs.check_table.Reads as table-check-check-table
+use Rattle.table_check.proofs.is_table.Reads as table-check-is-table
+use Rattle.places.proofs.fill.Reads as places-fill
+use Rattle.view.proofs.first.Reads as view-first
+use Rattle.view.proofs.look.Reads as view-look
+use Rattle.view.proofs.next.Reads as view-next
+use Rattle.claims_view.specs.HeldTable.{NewPost, ShowPost, StepPost}
 use Rattle.figure.proofs.show.Reads as figure-show
 use Rattle.host_figure.proofs.show.Reads as host-figure-show
 use Rattle.area.proofs.empty_area.Reads as area-empty-area
@@ -68,6 +75,7 @@ use Rattle.content.proofs.is_bad.Reads as content-is-bad
 use Rattle.content.proofs.read_content.Reads as content-read-content
 use Rattle.reply.proofs.read.Reads as reply-read
 use Rattle.host_slave.proofs.serve.Reads as host-slave-serve
+use Rattle.host_slave.proofs.serve_listed.Reads as host-slave-serve-listed
 use Rattle.host_master.proofs.build_task.Reads as host-master-build-task
 use Rattle.host_master.proofs.build_mirror.Reads as host-master-build-mirror
 use Rattle.host_master.proofs.build_broadcast.Reads as host-master-build-broadcast
@@ -79,6 +87,7 @@ use Rattle.uss_c.proofs.uss_receive.Reads as uss-receive
 use Rattle.uss_c.proofs.uss_receive_bytes.Reads as uss-receive-bytes
 use Rattle.uss_c.proofs.uss_pause.Reads as uss-pause
 use Rattle.uss_c.proofs.uss_slave.Reads as uss-slave
+use Rattle.uss_c.proofs.uss_slave_listed.Reads as uss-slave-listed
 use Rattle.uss_c.proofs.uss_build_task.Reads as uss-build-task
 use Rattle.uss_c.proofs.uss_build_mirror.Reads as uss-build-mirror
 use Rattle.uss_c.proofs.uss_build_broadcast.Reads as uss-build-broadcast
@@ -86,6 +95,10 @@ use Rattle.uss_c.proofs.uss_read_reply.Reads as uss-read-reply
 use Rattle.uss_c.proofs.uss_list.Reads as uss-list
 use Rattle.uss_c.proofs.uss_bcc.Reads as uss-bcc
 use Rattle.uss_c.proofs.uss_check_table.Reads as uss-check-table
+use Rattle.uss_c.proofs.uss_fill_places.Reads as uss-fill-places
+use Rattle.uss_c.proofs.uss_view_open.Reads as uss-view-open
+use Rattle.uss_c.proofs.uss_view_show.Reads as uss-view-show
+use Rattle.uss_c.proofs.uss_view_step.Reads as uss-view-step
 use Rattle.uss_c.proofs.uss_show_hertz.Reads as uss-show-hertz
 use Rattle.uss_c.proofs.uss_show_percent.Reads as uss-show-percent
 use Rattle.uss_c.proofs.uss_show_raw.Reads as uss-show-raw
@@ -115,6 +128,9 @@ frame-check-one κs a r r′ s s′ = equal-through
 
 pub address-decode-one : OneResult address-decode.Post
 address-decode-one κs a r r′ s s′ = equal-through
+
+pub address-decode-found-one : OneResult address-decode-found.Post
+address-decode-found-one κs a r r′ s s′ = equal-through
 
 pub address-number-fault-one : OneResult address-number-fault.Post
 address-number-fault-one κs a r r′ s s′ = equal-through
@@ -175,6 +191,33 @@ opening-open-one κs a r r′ s s′ = equal-through
 
 pub table-check-check-table-one : OneResult table-check-check-table.Post
 table-check-check-table-one κs a r r′ s s′ = equal-through
+
+pub table-check-is-table-one : OneResult table-check-is-table.Post
+table-check-is-table-one κs a r r′ s s′ = equal-through
+
+pub places-fill-one : OneResult places-fill.Post
+places-fill-one κs a r r′ s s′ p p′ = equal-through (p .0) (p′ .0)
+
+pub places-fill-places : OneExit places-fill.Post (λ κs s. now (s .1 .0))
+places-fill-places κs a r r′ s s′ p p′ = equal-through (p .1) (p′ .1)
+
+pub view-first-one : OneResult view-first.Post
+view-first-one κs a r r′ s s′ = equal-through
+
+pub view-look-one : OneResult view-look.Post
+view-look-one κs a r r′ s s′ = equal-through
+
+pub view-next-one : OneResult view-next.Post
+view-next-one κs a r r′ s s′ = equal-through
+
+pub view-new-one : OneResult NewPost
+view-new-one κs a r r′ s s′ = equal-through
+
+pub view-show-one : OneResult ShowPost
+view-show-one κs a r r′ s s′ = equal-through
+
+pub view-step-one : OneResult StepPost
+view-step-one κs a r r′ s s′ = equal-through
 
 pub figure-show-one : OneResult figure-show.Post
 figure-show-one κs a r r′ s s′ = equal-through
@@ -302,7 +345,7 @@ slave-serve-one κs a r r′ s s′ p p′ = equal-through (p .answers) (p′ .a
 pub slave-serve-values : OneExit slave-serve.Post (λ κs s. now (s .1 .1 .0))
 slave-serve-values κs a r r′ s s′ p p′ = ap (λ (m : Memory). m .values) (equal-through (p .memory-is) (p′ .memory-is))
 
-pub slave-serve-reply : OneExit slave-serve.Post (λ κs s. now (s .1 .1 .1 .1 .1 .1 .0))
+pub slave-serve-reply : OneExit slave-serve.Post (λ κs s. now (s .1 .1 .1 .1 .1 .1 .1 .1 .0))
 slave-serve-reply κs a r r′ s s′ p p′ = equal-through (p .reply-is) (p′ .reply-is)
 
 pub master-build-task-one : OneResult master-build-task.Post
@@ -331,6 +374,15 @@ host-slave-serve-values κs a r r′ s s′ p p′ = ap (λ (m : Memory). m .val
 
 pub host-slave-serve-reply : OneExit host-slave-serve.Post (λ κs s. now (s .1 .1 .1 .1 .1 .1 .0))
 host-slave-serve-reply κs a r r′ s s′ p p′ = equal-through (p .reply-is) (p′ .reply-is)
+
+pub host-slave-serve-listed-one : OneResult host-slave-serve-listed.Post
+host-slave-serve-listed-one κs a r r′ s s′ p p′ = equal-through (p .answers) (p′ .answers)
+
+pub host-slave-serve-listed-values : OneExit host-slave-serve-listed.Post (λ κs s. now (s .1 .1 .0))
+host-slave-serve-listed-values κs a r r′ s s′ p p′ = ap (λ (m : Memory). m .values) (equal-through (p .memory-is) (p′ .memory-is))
+
+pub host-slave-serve-listed-reply : OneExit host-slave-serve-listed.Post (λ κs s. now (s .1 .1 .1 .1 .1 .1 .1 .0))
+host-slave-serve-listed-reply κs a r r′ s s′ p p′ = equal-through (p .reply-is) (p′ .reply-is)
 
 pub host-master-build-task-one : OneResult host-master-build-task.Post
 host-master-build-task-one κs a r r′ s s′ p p′ = equal-through (p .answers) (p′ .answers)
@@ -388,6 +440,15 @@ uss-slave-values κs a r r′ s s′ p p′ = ap (λ (m : Memory). m .values) (e
 pub uss-slave-reply : OneExit uss-slave.Post (λ κs s. now (s .1 .1 .1 .1 .1 .1 .0))
 uss-slave-reply κs a r r′ s s′ p p′ = equal-through (p .reply-is) (p′ .reply-is)
 
+pub uss-slave-listed-one : OneResult uss-slave-listed.Post
+uss-slave-listed-one κs a r r′ s s′ p p′ = equal-through (p .answers) (p′ .answers)
+
+pub uss-slave-listed-values : OneExit uss-slave-listed.Post (λ κs s. now (s .1 .1 .0))
+uss-slave-listed-values κs a r r′ s s′ p p′ = ap (λ (m : Memory). m .values) (equal-through (p .memory-is) (p′ .memory-is))
+
+pub uss-slave-listed-reply : OneExit uss-slave-listed.Post (λ κs s. now (s .1 .1 .1 .1 .1 .1 .1 .0))
+uss-slave-listed-reply κs a r r′ s s′ p p′ = equal-through (p .reply-is) (p′ .reply-is)
+
 pub uss-build-task-one : OneResult uss-build-task.Post
 uss-build-task-one κs a r r′ s s′ p p′ = equal-through (p .answers) (p′ .answers)
 
@@ -420,6 +481,21 @@ uss-bcc-one κs a r r′ s s′ = equal-through
 
 pub uss-check-table-one : OneResult uss-check-table.Post
 uss-check-table-one κs a r r′ s s′ = equal-through
+
+pub uss-fill-places-one : OneResult uss-fill-places.Post
+uss-fill-places-one κs a r r′ s s′ p p′ = equal-through (p .0) (p′ .0)
+
+pub uss-fill-places-places : OneExit uss-fill-places.Post (λ κs s. now (s .1 .0))
+uss-fill-places-places κs a r r′ s s′ p p′ = equal-through (p .1) (p′ .1)
+
+pub uss-view-open-one : OneResult uss-view-open.Post
+uss-view-open-one κs a r r′ s s′ = equal-through
+
+pub uss-view-show-one : OneResult uss-view-show.Post
+uss-view-show-one κs a r r′ s s′ = equal-through
+
+pub uss-view-step-one : OneResult uss-view-step.Post
+uss-view-step-one κs a r r′ s s′ = equal-through
 
 pub uss-show-hertz-one : OneResult uss-show-hertz.Post
 uss-show-hertz-one κs a r r′ s s′ = equal-through

@@ -8,6 +8,7 @@ use Rattle.setup.specs.declared.Setup.{Setup}
 use Rattle.setup.specs.SetupRules.{setupOk}
 use Rattle.table.specs.Records.{entriesFrom, entries, countsOf}
 use Rattle.bcc.specs.Bcc.{xorAll}
+use Rattle.opening.specs.Lent.{Unlisted}
 use Rattle.opening.specs.Rules.{risingFrom, eachOk, runsOk}
 use Rattle.broadcast.specs.Broadcast.{isVoid}
 use Rattle.slave.specs.Slave.{Call}
@@ -20,7 +21,7 @@ small = record { node = 3; pkw = 0; pzd = 1 }
 
 -- no parameter, a buffer of 256 bytes, these bytes received
 abbrev pub smallCall : List ℕ → Call
-smallCall rx = record { setup = small; table = []; memory = record { values = [] }; control = twoWords 0 0; status = twoWords 0 0; received = rx; buffer = replicate 256 0 }
+smallCall rx = record { setup = small; table = []; memory = record { values = [] }; list = Unlisted; control = twoWords 0 0; status = twoWords 0 0; received = rx; buffer = replicate 256 0 }
 
 abbrev pub lines : List (List ℕ × ℕ)
 lines =

@@ -22,7 +22,7 @@ use Rattle.frame.specs.declared.FrameCheck.the-variants.{Sound}
 use Rattle.address.specs.declared.Decoded.{Decoded}
 use Rattle.frame.proofs.FrameLaws.{Framed}
 use Rattle.address.proofs.DecodedLaws.{framed-decoded}
-use Rattle.opening.specs.Answers.{openingRows, openingOf}
+use Rattle.opening.specs.Answers.{openedNumber, openingRows, openingOf}
 use Rattle.opening.specs.declared.Opening.{Opening}
 use Rattle.opening.specs.declared.Opening.the-variants.{Passed}
 use Rattle.slave_answers.specs.declared.Refusal.the-variants.{OtherNode, OtherLength, VoidBroadcast}
@@ -31,7 +31,7 @@ use Rattle.control.specs.Control.{voidIn}
 use Rattle.slave.specs.Slave.{Call, Outcome, lentBy, openingAt, netIn, refusedOf, normalOutcome, normalCase, mirrorOutcome, mirrorCase, takenOutcome, broadcastCase, executeDecoded, executeOf, callOpened, callOf}
 use Rattle.slave.proofs.CaseLaws.{executed, called}
 use Rattle.claims_slave.specs.Outcomes.{NotFrame, PastFrame}
-use Rattle.claims_slave.specs.AnswerTable.{openedNumber, answerRows, acceptedNumber}
+use Rattle.claims_slave.specs.AnswerTable.{answerRows, acceptedNumber}
 
 -- ---- the kinds
 

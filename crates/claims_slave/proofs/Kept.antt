@@ -136,5 +136,5 @@ module _ (k : Call) where
       (λ q d. p)
       (λ q d l v. p)
 
-  pub opening-kept : openingAt k ≡ Passed → openingOf (record { setup = k .setup; table = k .table; memory = after .memory; room = length (after .reply) }) ≡ Passed
+  pub opening-kept : openingAt k ≡ Passed → openingOf (record { setup = k .setup; table = k .table; memory = after .memory; list = k .list; room = length (after .reply) }) ≡ Passed
   opening-kept p = rw (buffer-kept p) (memory-kept p)

@@ -13,7 +13,8 @@ use Rattle.table.specs.Records.{entryAt, entriesFrom, entries, findFrom, counts
 use Rattle.bcc.specs.Bcc.{xorAll}
 use Rattle.frame.specs.Frame.{frameOf}
 use Rattle.address.specs.Address.{addressOf}
-use Rattle.opening.specs.Rules.{risingFrom, eachOk, runOk, runsOk}
+use Rattle.opening.specs.Rules.{risingFrom, eachOk, runOk, runsOk, sumsOk}
+use Rattle.opening.specs.Lent.{PlaceList, Unlisted, Listed}
 use Rattle.opening.specs.Answers.{openingOf}
 use Rattle.area.specs.Net.{netOf}
 use Rattle.area.specs.Read.{valueAt, areaAt, processAt}
@@ -71,11 +72,20 @@ heard x = (answerNumber (x .answer), x .bytes)
 abbrev pub awaited : List ℕ × ℕ × List ℕ → ℕ × List ℕ
 awaited c = (c .1, c .2)
 
+-- with a list, or without
+abbrev pub ranWith : PlaceList → Run
+ranWith l = runOf (record { setup = setup; table = table; list = l }) startState (map (λ (c : List ℕ × ℕ × List ℕ). eventOf (c .0)) calls)
+
 abbrev pub ran : Run
-ran = runOf setup table startState (map (λ (c : List ℕ × ℕ × List ℕ). eventOf (c .0)) calls)
+ran = ranWith Unlisted
 
 -- each call is answered so, one after another; the value left is the one that was changed, the control words are those of the
 -- last normal telegram with the broadcast's masked bits
 pub known-sequence : (map heard (ran .seen) ≡ map awaited calls) × (ran .last .memory .values ≡ 6000 ∷ []) × (ran .last .control ≡ process)
 unfolding runOf callOf openingOf setupOk risingFrom eachOk runOk runsOk entryOf countOf signedOf numberOf atMost fitsIn isWithin entryOk entryAt entriesFrom entries findFrom countsOf executeOf xorAll frameOf addressOf normalCase mirrorCase broadcastCase commandAt controlTaken replyOf netOf valueAt areaAt processAt tasks taskOf pageOf verdictOf elementOf isVoid mergeOf controlAfter deedOn foundOf planIn planAt
 known-sequence = (refl, refl, refl)
+
+-- the table's list is 0. With it each call is answered in the same way; with another each is 25, and nothing has changed
+pub known-listed-sequence : (ranWith (Listed (0 ∷ [])) ≡ ran) × (map (λ (x : Seen). answerNumber (x .answer)) (ranWith (Listed (1 ∷ [])) .seen) ≡ replicate 8 25) × (ranWith (Listed (1 ∷ [])) .last ≡ startState)
+unfolding runOf callOf openingOf setupOk risingFrom eachOk runOk runsOk sumsOk entryOf countOf signedOf numberOf atMost fitsIn isWithin entryOk entryAt entriesFrom entries findFrom countsOf executeOf xorAll frameOf addressOf normalCase mirrorCase broadcastCase commandAt controlTaken replyOf netOf valueAt areaAt processAt tasks taskOf pageOf verdictOf elementOf isVoid mergeOf controlAfter deedOn foundOf planIn planAt
+known-listed-sequence = (refl, refl, refl)

@@ -11,3 +11,4 @@ pub mod AnswerTable
 pub mod Sequences
 pub mod Damaged
 pub mod Known
+pub mod Listed

@@ -1,6 +1,5 @@
 -- Document 01's table of answer numbers, line by line and in its order, over a slave call.
---     openedNumber o       the number of what the opening check finds, 0 where it passes
---     answerRows k         the lines 20 to 23 and 10 to 18: test and number
+--     answerRows k         the lines 20, 21, 22, 25, 23 and 10 to 18: test and number
 --     acceptedNumber rx    0, 1, 2 where none of them holds: replied, mirrored, broadcast taken
 use Prim.Native.Nat.{ℕ, _%_}
 use mathlib.Core.Bool.{Bool, not, _&&_, cond}
@@ -9,20 +8,13 @@ use Rattle.rows.specs.Rows.{readRows}
 use Rattle.setup.specs.SetupRules.{otherNode, otherLength}
 use Rattle.frame.specs.Frame.{frameNumbers}
 use Rattle.address.specs.Address.{adrOf, badAddress, broadcastBit, mirrorBit}
-use Rattle.opening.specs.declared.Opening.{Opening}
-use Rattle.opening.specs.declared.Opening.the-variants.{Passed, Closed}
-use Rattle.opening.specs.Answers.{openingRows}
-use Rattle.slave_answers.specs.SlaveNumbers.{openingNumber}
+use Rattle.opening.specs.Answers.{openedNumber, openingRows}
 use Rattle.control.specs.Control.{voidIn}
 use Rattle.slave.specs.Slave.{Call, lentBy, netIn}
 
-abbrev pub openedNumber : Opening → ℕ
-openedNumber Passed = 0
-openedNumber (Closed fault) = openingNumber fault
-
 abbrev pub answerRows : Call → List (Bool × ℕ)
 answerRows k =
-    -- the lines 20 to 23 of the opening check
+    -- the lines 20, 21, 22, 25, 23 of the opening check
     readRows openedNumber (openingRows (lentBy k))
     -- the lines 10 to 14 of the frame check
     ++ frameNumbers (k .received)

@@ -4,3 +4,4 @@ pub mod AnswerTable
 pub mod ReplyArea
 pub mod PlainTasks
 pub mod Sequence
+pub mod Listed

@@ -1,12 +1,13 @@
--- Sequences of slave calls with one set-up and table: each starts from what the last one left, and no one else writes.
---     asked s t q e          the call of an event e in a state q
---     callAt s t q e         its outcome; leftBy o: the state that it leaves; seenOf o: what is seen of it
---     stepOf s t q e         the next state
---     runOf s t q es         the calls of the events es, one after another: what is seen, and the last state
---     strike c s t q es      the events without those chosen ones that are refused when their turn comes; c i chooses event i
---     kept c seen            what is seen, without the chosen refused calls
---     everyOne               the choice of all
---     Opens s t q            the opening check passes in the state q
+-- Sequences of slave calls with one set-up, table and list: each starts from what the last one left, and no one else writes.
+--     Standing             what stands through a sequence: set-up, table, and the list where one is lent (document 02, W-205)
+--     asked s q e          the call of an event e in a state q
+--     callAt s q e         its outcome; leftBy o: the state that it leaves; seenOf o: what is seen of it
+--     stepOf s q e         the next state
+--     runOf s q es         the calls of the events es, one after another: what is seen, and the last state
+--     strike c s q es      the events without those chosen ones that are refused when their turn comes; c i chooses event i
+--     kept c seen          what is seen, without the chosen refused calls
+--     everyOne             the choice of all
+--     Opens s q            the opening check passes in the state q
 use Prim.Native.Nat.{ℕ, suc}
 use mathlib.Core.Path.{_≡_}
 use mathlib.Core.Bool.{Bool, true, _&&_, cond}
@@ -14,12 +15,17 @@ use mathlib.Core.List.{List, [], _∷_}
 use lib.ListN.{length}
 use Rattle.words.specs.declared.Words.{Words}
 use Rattle.setup.specs.declared.Setup.{Setup}
-use Rattle.opening.specs.Lent.{Memory}
+use Rattle.opening.specs.Lent.{Memory, PlaceList}
 use Rattle.opening.specs.Answers.{openingOf}
 use Rattle.opening.specs.declared.Opening.the-variants.{Passed}
 use Rattle.slave_answers.specs.declared.Answer.{Answer}
 use Rattle.slave.specs.Slave.{Call, Outcome, sentBy, callOf}
 use Rattle.claims_slave.specs.Outcomes.{isRefused}
+
+pub record Standing : Type 0 where
+  pub setup : Setup
+  pub table : List ℕ
+  pub list : PlaceList
 
 pub record State : Type 0 where
   pub memory : Memory
@@ -41,14 +47,15 @@ pub record Run : Type 0 where
   pub seen : List Seen
   pub last : State
 
-abbrev pub Opens : Setup → List ℕ → State → Type 0
-Opens s t q = openingOf (record { setup = s; table = t; memory = q .memory; room = length (q .buffer) }) ≡ Passed
+abbrev pub Opens : Standing → State → Type 0
+Opens s q = openingOf (record { setup = s .setup; table = s .table; memory = q .memory; list = s .list; room = length (q .buffer) }) ≡ Passed
 
-abbrev pub asked : Setup → List ℕ → State → Event → Call
-asked s t q e = record { setup = s; table = t; memory = q .memory; control = q .control; status = e .status; received = e .received; buffer = q .buffer }
+abbrev pub asked : Standing → State → Event → Call
+asked s q e =
+    record { setup = s .setup; table = s .table; memory = q .memory; list = s .list; control = q .control; status = e .status; received = e .received; buffer = q .buffer }
 
-abbrev pub callAt : Setup → List ℕ → State → Event → Outcome
-callAt s t q e = callOf (asked s t q e)
+abbrev pub callAt : Standing → State → Event → Outcome
+callAt s q e = callOf (asked s q e)
 
 abbrev pub leftBy : Outcome → State
 leftBy o = record { memory = o .memory; control = o .served .control; buffer = o .reply }
@@ -56,12 +63,12 @@ leftBy o = record { memory = o .memory; control = o .served .control; buffer = o
 abbrev pub seenOf : Outcome → Seen
 seenOf o = record { answer = o .served .answer; count = o .served .length; bytes = sentBy o }
 
-abbrev pub stepOf : Setup → List ℕ → State → Event → State
-stepOf s t q e = leftBy (callAt s t q e)
+abbrev pub stepOf : Standing → State → Event → State
+stepOf s q e = leftBy (callAt s q e)
 
-unfoldable pub runOf : Setup → List ℕ → State → List Event → Run
-runOf s t q [] = record { seen = []; last = q }
-runOf s t q (e ∷ es) = record { seen = seenOf (callAt s t q e) ∷ runOf s t (stepOf s t q e) es .seen; last = runOf s t (stepOf s t q e) es .last }
+unfoldable pub runOf : Standing → State → List Event → Run
+runOf s q [] = record { seen = []; last = q }
+runOf s q (e ∷ es) = record { seen = seenOf (callAt s q e) ∷ runOf s (stepOf s q e) es .seen; last = runOf s (stepOf s q e) es .last }
 
 -- ---- striking out
 
@@ -72,10 +79,10 @@ everyOne i = true
 abbrev pub onward : (ℕ → Bool) → ℕ → Bool
 onward c i = c (suc i)
 
-unfoldable pub strike : (ℕ → Bool) → Setup → List ℕ → State → List Event → List Event
-strike c s t q [] = []
-strike c s t q (e ∷ es) =
-    cond (c 0 && isRefused (callAt s t q e .served .answer)) (strike (onward c) s t (stepOf s t q e) es) (e ∷ strike (onward c) s t (stepOf s t q e) es)
+unfoldable pub strike : (ℕ → Bool) → Standing → State → List Event → List Event
+strike c s q [] = []
+strike c s q (e ∷ es) =
+    cond (c 0 && isRefused (callAt s q e .served .answer)) (strike (onward c) s (stepOf s q e) es) (e ∷ strike (onward c) s (stepOf s q e) es)
 
 unfoldable pub kept : (ℕ → Bool) → List Seen → List Seen
 kept c [] = []

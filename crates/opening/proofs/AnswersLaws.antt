@@ -13,26 +13,28 @@ use Rattle.rows.proofs.BoolLaws.{and-left, and-right}
 use Rattle.setup.specs.SetupRules.{setupOk}
 use Rattle.table.specs.Records.{entries, countsOf}
 use Rattle.slave_answers.specs.declared.OpeningFault.{OpeningFault}
-use Rattle.slave_answers.specs.declared.OpeningFault.the-variants.{BadSetup, BadTable, BadValues, ShortBuffer}
+use Rattle.slave_answers.specs.declared.OpeningFault.the-variants.{BadSetup, BadTable, BadValues, BadPlaces, ShortBuffer}
 use Rattle.opening.specs.declared.Opening.{Opening}
 use Rattle.opening.specs.declared.Opening.the-variants.{Passed, Closed}
-use Rattle.opening.specs.Rules.{risingFrom, eachOk, runsOk, tableOk, valuesOk}
+use Rattle.opening.specs.Rules.{risingFrom, eachOk, runsOk, tableOk, valuesOk, listOk}
 use Rattle.opening.specs.Lent.{Lent}
 use Rattle.opening.specs.Answers.{openingRows, openingOf, contentOf}
 
--- two tests refuse: so do they with a third after them
-two-refuse : (a b d : Bool) (f : OpeningFault) → firstOf ((not a, Closed BadTable) ∷ (not b, Closed BadValues) ∷ []) Passed ≡ Closed f
-    → firstOf ((not a, Closed BadTable) ∷ (not b, Closed BadValues) ∷ (d, Closed ShortBuffer) ∷ []) Passed ≡ Closed f
-two-refuse false b d f e = e
-two-refuse true false d f e = e
-two-refuse true true d f e = let z : _≡_ {A = ℕ} 0 1 = cc in absurd (omega arith)
+-- three tests refuse: so do they with a fourth after them
+content-refuse : (a b g d : Bool) (f : OpeningFault) → firstOf ((not a, Closed BadTable) ∷ (not b, Closed BadValues) ∷ (not g, Closed BadPlaces) ∷ []) Passed ≡ Closed f
+    → firstOf ((not a, Closed BadTable) ∷ (not b, Closed BadValues) ∷ (not g, Closed BadPlaces) ∷ (d, Closed ShortBuffer) ∷ []) Passed ≡ Closed f
+content-refuse false b g d f e = e
+content-refuse true false g d f e = e
+content-refuse true true false d f e = e
+content-refuse true true true d f e = let z : _≡_ {A = ℕ} 0 1 = cc in absurd (omega arith)
 
--- two tests pass: the third decides
-two-pass : (a b d : Bool) → firstOf ((not a, Closed BadTable) ∷ (not b, Closed BadValues) ∷ []) Passed ≡ Passed
-    → firstOf ((not a, Closed BadTable) ∷ (not b, Closed BadValues) ∷ (d, Closed ShortBuffer) ∷ []) Passed ≡ cond d (Closed ShortBuffer) Passed
-two-pass false b d e = let z : _≡_ {A = ℕ} 0 1 = cc in absurd (omega arith)
-two-pass true false d e = let z : _≡_ {A = ℕ} 0 1 = cc in absurd (omega arith)
-two-pass true true d e = refl
+-- three tests pass: the fourth decides
+content-pass : (a b g d : Bool) → firstOf ((not a, Closed BadTable) ∷ (not b, Closed BadValues) ∷ (not g, Closed BadPlaces) ∷ []) Passed ≡ Passed
+    → firstOf ((not a, Closed BadTable) ∷ (not b, Closed BadValues) ∷ (not g, Closed BadPlaces) ∷ (d, Closed ShortBuffer) ∷ []) Passed ≡ cond d (Closed ShortBuffer) Passed
+content-pass false b g d e = let z : _≡_ {A = ℕ} 0 1 = cc in absurd (omega arith)
+content-pass true false g d e = let z : _≡_ {A = ℕ} 0 1 = cc in absurd (omega arith)
+content-pass true true false d e = let z : _≡_ {A = ℕ} 0 1 = cc in absurd (omega arith)
+content-pass true true true d e = refl
 
 module _ (l : Lent) where
   -- the Bools of its lines
@@ -42,6 +44,9 @@ module _ (l : Lent) where
   abbrev valuesGood : Bool
   valuesGood = valuesOk (l .table) (l .memory .values)
 
+  abbrev listGood : Bool
+  listGood = listOk (l .list) (l .table)
+
   abbrev roomShort : Bool
   roomShort = ltb (l .room) 256
 
@@ -49,17 +54,17 @@ module _ (l : Lent) where
   unfolding openingOf
   open-setup a = rw a
 
-  pub open-content : (f : OpeningFault) → setupOk (l .setup) ≡ true → contentOf (l .table) (l .memory .values) ≡ Closed f → openingOf l ≡ Closed f
+  pub open-content : (f : OpeningFault) → setupOk (l .setup) ≡ true → contentOf (l .table) (l .memory .values) (l .list) ≡ Closed f → openingOf l ≡ Closed f
   unfolding openingOf contentOf
-  open-content f a e = rw a (two-refuse tableGood valuesGood roomShort f e)
+  open-content f a e = rw a (content-refuse tableGood valuesGood listGood roomShort f e)
 
-  pub open-buffer : setupOk (l .setup) ≡ true → contentOf (l .table) (l .memory .values) ≡ Passed → l .room < 256 → openingOf l ≡ Closed ShortBuffer
+  pub open-buffer : setupOk (l .setup) ≡ true → contentOf (l .table) (l .memory .values) (l .list) ≡ Passed → l .room < 256 → openingOf l ≡ Closed ShortBuffer
   unfolding openingOf contentOf
-  open-buffer a e h = rw a (two-pass tableGood valuesGood roomShort e ∙ rw (lt-ltb (l .room) 256 h))
+  open-buffer a e h = rw a (content-pass tableGood valuesGood listGood roomShort e ∙ rw (lt-ltb (l .room) 256 h))
 
-  pub open-passed : setupOk (l .setup) ≡ true → contentOf (l .table) (l .memory .values) ≡ Passed → 256 ≤ l .room → openingOf l ≡ Passed
+  pub open-passed : setupOk (l .setup) ≡ true → contentOf (l .table) (l .memory .values) (l .list) ≡ Passed → 256 ≤ l .room → openingOf l ≡ Passed
   unfolding openingOf contentOf
-  open-passed a e h = rw a (two-pass tableGood valuesGood roomShort e ∙ rw (le-ltb (l .room) 256 h))
+  open-passed a e h = rw a (content-pass tableGood valuesGood listGood roomShort e ∙ rw (le-ltb (l .room) 256 h))
 
   -- a number is given exactly when its line holds and no earlier one does
   pub opening-chosen : Chosen (openingRows l) Passed (openingOf l)
@@ -80,16 +85,19 @@ pub record Opened (l : Lent) : Type 0 where
   pub places : countsOf (entries (l .table)) ≤ 4096
   pub count : countsOf (entries (l .table)) ≡ length (l .memory .values)
   pub limits : runsOk (entries (l .table)) (l .memory .values) 0 ≡ true
+  pub list-right : listOk (l .list) (l .table) ≡ true
   pub buffer : 256 ≤ l .room
 
 -- a passing check fails each of its rows
-all-passed : (a b c d : Bool) → firstOf ((not a, Closed BadSetup) ∷ (not b, Closed BadTable) ∷ (not c, Closed BadValues) ∷ (d, Closed ShortBuffer) ∷ []) Passed ≡ Passed
-    → (a ≡ true) × (b ≡ true) × (c ≡ true) × (d ≡ false)
-all-passed true true true false e = (refl, refl, refl, refl)
-all-passed false b c d e = let z : _≡_ {A = ℕ} 0 1 = cc in absurd (omega arith)
-all-passed true false c d e = let z : _≡_ {A = ℕ} 0 1 = cc in absurd (omega arith)
-all-passed true true false d e = let z : _≡_ {A = ℕ} 0 1 = cc in absurd (omega arith)
-all-passed true true true true e = let z : _≡_ {A = ℕ} 0 1 = cc in absurd (omega arith)
+all-passed : (a b c g d : Bool)
+    → firstOf ((not a, Closed BadSetup) ∷ (not b, Closed BadTable) ∷ (not c, Closed BadValues) ∷ (not g, Closed BadPlaces) ∷ (d, Closed ShortBuffer) ∷ []) Passed ≡ Passed
+    → (a ≡ true) × (b ≡ true) × (c ≡ true) × (g ≡ true) × (d ≡ false)
+all-passed true true true true false e = (refl, refl, refl, refl, refl)
+all-passed false b c g d e = let z : _≡_ {A = ℕ} 0 1 = cc in absurd (omega arith)
+all-passed true false c g d e = let z : _≡_ {A = ℕ} 0 1 = cc in absurd (omega arith)
+all-passed true true false g d e = let z : _≡_ {A = ℕ} 0 1 = cc in absurd (omega arith)
+all-passed true true true false d e = let z : _≡_ {A = ℕ} 0 1 = cc in absurd (omega arith)
+all-passed true true true true true e = let z : _≡_ {A = ℕ} 0 1 = cc in absurd (omega arith)
 
 module _ (l : Lent) where
   pub passed-opened : openingOf l ≡ Passed → Opened l
@@ -97,7 +105,7 @@ module _ (l : Lent) where
   passed-opened e =
       let t = l .table in
       let vs = l .memory .values in
-      let p = all-passed (setupOk (l .setup)) (tableOk t) (valuesOk t vs) (ltb (l .room) 256) e in
+      let p = all-passed (setupOk (l .setup)) (tableOk t) (valuesOk t vs) (listOk (l .list) t) (ltb (l .room) 256) e in
       let a = eqb (length t % 12) 0 in
       let b = leb (length t / 12) 512 in
       let r = risingFrom 0 (entries t) in
@@ -119,7 +127,8 @@ module _ (l : Lent) where
         places = leb-true (countsOf (entries t)) 4096 (and-right (a && b && r && o) n (p .1));
         count = eqb-true (countsOf (entries t)) (length vs) (and-left q v (p .2));
         limits = and-right q v (p .2);
-        buffer = ltb-false (l .room) 256 (p .3);
+        list-right = p .3;
+        buffer = ltb-false (l .room) 256 (p .4);
       }
 
   pub opened-passes : Opened l → openingOf l ≡ Passed
@@ -128,4 +137,4 @@ module _ (l : Lent) where
       let t = l .table in
       let vs = l .memory .values in
       let f = le-leb (length t / 12) 512 (omega arith) in
-      rw (o .setup-good, eq-eqb (length t % 12) 0 (o .whole), f, o .rising, o .ruled, le-leb _ _ (o .places), eq-eqb (countsOf (entries t)) (length vs) (o .count), o .limits, le-ltb (l .room) 256 (o .buffer))
+      rw (o .setup-good, eq-eqb (length t % 12) 0 (o .whole), f, o .rising, o .ruled, le-leb _ _ (o .places), eq-eqb (countsOf (entries t)) (length vs) (o .count), o .limits, o .list-right, le-ltb (l .room) 256 (o .buffer))

@@ -90,7 +90,7 @@ module _ (t vs : List ℕ) (k i : ℕ) (below : k < length t / 12) (element : i 
       let ok = rw z at (allows-at t k n 0 0 i v below (rw s element) (rw s w)) in
       runs-set vs (firstPlace t k + i) v place-below (entriesFrom t n 0) 0 ok h
 
--- 20 to 23 stay passed after a change of one place to a value within its record's limits
+-- 20 to 23 and 25 stay passed after a change of one place to a value within its record's limits
 pub change-keeps-opening : (l : Lent) (k i v : ℕ) → openingOf l ≡ Passed → k < length (l .table) / 12 → i < countOf (entryAt (l .table) k)
     → isWithin (entryAt (l .table) k) v ≡ true → openingOf (lending l (stored (l .memory) (firstPlace (l .table) k + i) v)) ≡ Passed
 change-keeps-opening l k i v e a b c =
@@ -108,5 +108,6 @@ change-keeps-opening l k i v e a b c =
       places = o .places;
       count = o .count ∙ sym (length-set vs (firstPlace t k + i) v);
       limits = runs-kept t vs k i a b (o .count) v c (o .limits);
+      list-right = o .list-right;
       buffer = o .buffer;
     })

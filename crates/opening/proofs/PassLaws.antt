@@ -5,7 +5,7 @@ use mathlib.Core.List.{List, [], _∷_}
 use mathlib.Core.Bool.{Bool, true, false, _&&_, and-true, and-false}
 use native.Mathlib.Omega.{arith}
 use native.Mathlib.Nat.{add-zero, zero-add, sub-zero, zero-div}
-use borrow.Author.Tests.{le-leb, lt-leb, leb-true, leb-false, eq-eqb, eqb-true}
+use borrow.Author.Tests.{le-leb, lt-leb, leb-true, leb-false, eq-eqb, ne-eqb, eqb-true, eqb-false}
 use lib.ListN.{length, take, drop}
 use lib.Dec.{eqb, leb}
 use Rattle.entry.specs.declared.Entry.{Entry}
@@ -47,6 +47,10 @@ value-tests true false g true true s h = simp and-false
 regroup : (m p f r g : Bool) → (m && p && f && r && g) ≡ (m && (p && f && r) && g)
 regroup false p f r g = refl
 regroup true p f r g = refl
+
+regroup-two : (a b c : Bool) → (a && (b && c)) ≡ (a && b && c)
+regroup-two false b c = refl
+regroup-two true b c = refl
 
 module _ (e : Entry) (es : List Entry) (least place : ℕ) where
   rule-step : ruledFrom (e ∷ es) least place ≡ (leb least (e .number) && entryOk e && ruledFrom es (e .number + 1) (place + countOf e))
@@ -100,15 +104,9 @@ module _ (least place : ℕ) where
   unfolding risingFrom eachOk countsOf
   rule-end = simp add-zero
 
-  pub pass-high : (vs : List ℕ) → 32000 < least → passFrom vs [] least place ≡ false
-  pass-high vs h = rw (lt-leb _ _ h)
-
-  pub pass-over : (vs : List ℕ) → 4096 < place → passFrom vs [] least place ≡ false
-  pass-over vs h = rw (rule-end, lt-leb _ _ h, and-false (leb least 32000))
-
-  pub pass-end : (vs : List ℕ) → least ≤ 32000 → place ≤ 4096 → passFrom vs [] least place ≡ eqb place (length vs)
+  pub pass-end : (vs : List ℕ) → passFrom vs [] least place ≡ (leb least 32000 && leb place 4096 && eqb place (length vs))
   unfolding countsOf runsOk
-  pass-end vs l h = rw (le-leb _ _ l, rule-end, le-leb _ _ h) (simp (add-zero, and-true))
+  pass-end vs = rw (rule-end, add-zero, and-true (eqb place (length vs))) (regroup-two (leb least 32000) (leb place 4096) (eqb place (length vs)))
 
 -- all records of a table of n whole ones
 pub rule-all : (t : List ℕ) (n : ℕ) → length t ≡ 12 * n → n ≤ 512 → tableOk t ≡ ruledFrom (entriesFrom t n 0) 0 0
@@ -121,16 +119,40 @@ rule-all t n whole few =
 abbrev pub entriesAt : List ℕ → ℕ → List Entry
 entriesAt t at = entriesFrom t (length t / 12 - at / 12) (at / 12)
 
-module _ (t : List ℕ) (whole : length t % 12 ≡ 0) where
-  pub pass-all : (vs : List ℕ) → length t ≤ 6144 → (tableOk t && valuesOk t vs) ≡ passFrom vs (entriesAt t 0) 0 0
-  unfolding entries
-  pass-all vs few = rw (rule-all t (length t / 12) (omega arith) (omega arith), zero-div, sub-zero, zero-add)
+whole-first : (w r o n q v : Bool) → ((w && true && r && o && n) && (q && v)) ≡ (w && ((r && o && n) && (q && v)))
+whole-first false r o n q v = refl
+whole-first true r o n q v = refl
 
-  pub at-end : (at : ℕ) → length t ≤ at → entriesAt t at ≡ []
-  at-end at h = entries-end t (length t / 12) (at / 12) (omega arith)
+module _ (t : List ℕ) where
+  -- the bytes behind the last whole record are asked for apart
+  pub pass-all : (vs : List ℕ) → length t ≤ 6144 → (tableOk t && valuesOk t vs) ≡ (eqb (length t % 12) 0 && passFrom vs (entriesAt t 0) 0 0)
+  unfolding entries
+  pass-all vs few =
+      let es = entriesFrom t (length t / 12) 0 in
+      rw (le-leb (length t / 12) 512 (omega arith), zero-div, sub-zero, zero-add)
+      (whole-first (eqb (length t % 12) 0) (risingFrom 0 es) (eachOk es) (leb (countsOf es) 4096) (eqb (countsOf es) (length vs)) (runsOk es vs 0))
+
+  -- no whole record
+  pub pass-none : (vs : List ℕ) → length t < 12 → (tableOk t && valuesOk t vs) ≡ (eqb 0 (length t) && eqb 0 (length vs))
+  pass-none vs few =
+      let none : entriesAt t 0 ≡ [] = entries-end t (length t / 12) (0 / 12) (omega arith) in
+      pass-all vs (omega arith) ∙ rw (none, pass-end 0 0 vs) (go (eqb 0 (length t)) refl)
+    where
+      go : (b : Bool) → eqb 0 (length t) ≡ b → (eqb (length t % 12) 0 && (leb 0 32000 && leb 0 4096 && eqb 0 (length vs))) ≡ (b && eqb 0 (length vs))
+      go true p = let z = eqb-true 0 (length t) p in rw (eq-eqb (length t % 12) 0 (omega arith))
+      go false p = rw (ne-eqb (length t % 12) 0 (λ h. eqb-false 0 (length t) p (omega arith)))
+
+  pub pass-whole : (vs : List ℕ) (n : ℕ) → length t ≡ 12 * n → n ≤ 512 → (tableOk t && valuesOk t vs) ≡ passFrom vs (entriesFrom t n 0) 0 0
+  unfolding entries
+  pass-whole vs n whole few =
+      let count : length t / 12 ≡ n = omega arith in
+      rw (rule-all t n whole few, count, zero-add)
+
+  pub at-end : (at : ℕ) → at % 12 ≡ 0 → length t < at + 12 → entriesAt t at ≡ []
+  at-end at here h = entries-end t (length t / 12) (at / 12) (omega arith)
 
   -- the first is the one that was read there
-  pub at-step : (at m : ℕ) (r : Record) → at % 12 ≡ 0 → at < length t → m ≡ 12 → r ≡ recordOf (take m (drop at t))
+  pub at-step : (at m : ℕ) (r : Record) → at % 12 ≡ 0 → at + 12 ≤ length t → m ≡ 12 → r ≡ recordOf (take m (drop at t))
       → entriesAt t at ≡ entryOf (r .head) (r .minimum) (r .maximum) ∷ entriesAt t (at + 12)
   at-step at m r here there twelve q =
       let place : 12 * (at / 12) ≡ at = omega arith in

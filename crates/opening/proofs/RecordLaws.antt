@@ -1,5 +1,5 @@
 -- One record and its values, as the code looks at them. Assumes nothing.
-use Prim.Native.Nat.{ℕ, suc, _+_, _-_, _<_, _≤_}
+use Prim.Native.Nat.{ℕ, suc, _+_, _-_, _/_, _%_, _<_, _≤_}
 use mathlib.Core.Path.{_≡_, refl, sym, _∙_}
 use mathlib.Core.List.{List}
 use mathlib.Core.Bool.{Bool, true, false, _&&_, and-true, and-false, false≢true}
@@ -8,7 +8,8 @@ use borrow.Author.Tests.{le-leb, lt-leb, eq-eqb, ne-eqb}
 use lib.ListN.{length, getD}
 use lib.Dec.{eqb, leb}
 use Rattle.entry.specs.declared.Entry.{Entry}
-use Rattle.entry.specs.Fields.{countOf}
+use Rattle.entry.specs.Fields.{entryOf, countOf}
+use Rattle.table.specs.declared.Record.{Record}
 use Rattle.limits.specs.Limits.{limitsOk, isWithin, entryOk}
 use Rattle.opening.specs.Rules.{runOk}
 
@@ -52,6 +53,11 @@ pub run-one : (e : Entry) (vs : List ℕ) (place : ℕ) (r : Bool) → place < l
     → r ≡ (limitsOk e && leb (place + 1) (length vs) && runOk e vs 1 place)
 unfolding runOk
 run-one e vs place r h q = rw (q, le-leb (place + 1) (length vs) (omega arith), and-true (limitsOk e), and-true (isWithin e (getD vs place 0)))
+
+-- elements and spare bits are the low fourteen bits of the head
+pub low-bits : (r : Record) (e : Entry) → e ≡ entryOf (r .head) (r .minimum) (r .maximum) → (e .elements ≡ r .head / 64 % 256) × (e .spare ≡ r .head % 64)
+unfolding entryOf
+low-bits r e q = rw q (refl, refl)
 
 -- the rules that a record can break by itself, but for that of its number
 abbrev pub plainOk : Entry → Bool

@@ -1,4 +1,4 @@
 -- The rules of a table and its values, what the host lends, and the answers of the opening check.
-pub mod Rules
 pub mod Lent
+pub mod Rules
 pub mod Answers

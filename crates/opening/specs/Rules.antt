@@ -1,19 +1,23 @@
--- The rules of a parameter table and of the values that go with it (document 01, Parameter table; Answer numbers 21 and 22).
+-- The rules of a parameter table, of the values and of the list that go with it (document 01, Parameter table; Answer numbers 21 and 22;
+-- document 02, W-205, number 25).
 --     risingFrom least es      numbers strictly rising: the first from `least` on, each further one over the one before it
 --     eachOk es                each record keeps its own rules
 --     tableOk t                whole records, at most 512, numbers rising, each record's rules, at most 4096 places
 --     runOk e vs n place       n values from a place on are within e's limits
 --     runsOk es vs place       the values of records in order, the first record's from a place on
 --     valuesOk t vs            the exact count, and each value within its record's limits
+--     sumsOk ps es place       one place per record: the first is `place`, each further one the sum of the places before it
+--     listOk l t               no list, or one place per record and the sums
 use Prim.Native.Nat.{ℕ, zero, suc, _+_, _/_, _%_}
 use mathlib.Core.List.{List, [], _∷_}
-use mathlib.Core.Bool.{Bool, true, _&&_}
+use mathlib.Core.Bool.{Bool, true, false, _&&_}
 use lib.ListN.{length, getD}
 use lib.Dec.{eqb, leb}
 use Rattle.entry.specs.declared.Entry.{Entry}
 use Rattle.entry.specs.Fields.{countOf}
 use Rattle.limits.specs.Limits.{isWithin, entryOk}
 use Rattle.table.specs.Records.{entries, countsOf}
+use Rattle.opening.specs.Lent.{PlaceList, Unlisted, Listed}
 
 unfoldable pub risingFrom : ℕ → List Entry → Bool
 risingFrom least [] = true
@@ -41,3 +45,13 @@ runsOk (e ∷ es) vs place = runOk e vs (countOf e) place && runsOk es vs (place
 
 abbrev pub valuesOk : List ℕ → List ℕ → Bool
 valuesOk t vs = eqb (countsOf (entries t)) (length vs) && runsOk (entries t) vs 0
+
+unfoldable pub sumsOk : List ℕ → List Entry → ℕ → Bool
+sumsOk [] [] place = true
+sumsOk [] (e ∷ es) place = false
+sumsOk (p ∷ ps) [] place = false
+sumsOk (p ∷ ps) (e ∷ es) place = eqb p place && sumsOk ps es (place + countOf e)
+
+abbrev pub listOk : PlaceList → List ℕ → Bool
+listOk Unlisted t = true
+listOk (Listed ps) t = sumsOk ps (entries t) 0

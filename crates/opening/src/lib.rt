@@ -1,14 +1,17 @@
-// The opening check: set-up, table, values and reply buffer (document 01, answers 20 to 23). One pass over table and values finds
-// whether all is in order; only where it is not, the table is gone through by itself, since its rules come first.
+// The opening check: set-up, table, values, list and reply buffer (document 01, answers 20 to 23; document 02, W-205, answer 25). One pass
+// over table, values and list finds whether all is in order. Only where it is not, a pass without the list tells 25 from the others, and one
+// over the table alone 22 from 21.
 ghost use mathlib.Core.Path.{_≡_};
-ghost use mathlib.Core.Bool.{true, _&&_};
-ghost use Prim.Native.Nat.{_+_, _*_, _%_, _≤_};
+ghost use mathlib.Core.Bool.{true, _&&_, cond};
+ghost use Prim.Native.Nat.{_+_, _*_, _/_, _≤_};
 ghost use lib.Dec.{eqb, leb};
 ghost use lib.ListN.{length};
 ghost use Rattle.words.specs.Words.{doubleAt};
 ghost use Rattle.entry.specs.Fields.{entryOf, countOf};
 ghost use Rattle.limits.specs.Limits.{limitsOk, isWithin};
-ghost use Rattle.opening.specs.Rules.{runOk, tableOk, valuesOk};
+ghost use Rattle.table.specs.Records.{entries};
+ghost use Rattle.opening.specs.Lent.{lentList};
+ghost use Rattle.opening.specs.Rules.{runOk, tableOk, valuesOk, sumsOk};
 ghost use Rattle.opening.specs.Answers.{contentOf, openingOf};
 use entry::Entry;
 use entry::count_places;
@@ -129,18 +132,52 @@ fn check_record(raw: Record, values: &[u32], place: usize) -> Run
     }
 }
 
-// ---- the table and its values
+// What check_record finds in `fine`, of a record whose places are already counted; why it stands beside it is told at in_order_listed.
+fn record_holds(raw: Record, values: &[u32], n: usize, place: usize) -> bool
+    requires { ⌜ (place ≤ 1000000) × (n ≡ countOf (entryOf (raw .head) (raw .minimum) (raw .maximum))) ⌝ }
+    ensures { λ r. let e = entryOf (raw .head) (raw .minimum) (raw .maximum) in ⌜ r ≡ (leb (e .elements) 254 && eqb (e .spare) 0 && limitsOk e && leb (place + countOf e) (length (now (values .entry))) && runOk e (now (values .entry)) (countOf e) place) ⌝ }
+{
+    let e = entry_of(raw.head, raw.minimum, raw.maximum);
+    if raw.head % 16384 == 0 {
+        return value_holds(e, values, place);
+    }
+    if e.spare != 0 {
+        return false;
+    }
+    if 254 < e.elements {
+        return false;
+    }
+    run_holds(e, values, n, place)
+}
+
+// ---- the table, its values and its list
+
+// What is left to ask where the records and values before were in order, of the last record's head, the places and the values there are.
+// Numbers rise, so the last record alone tells whether one is over 31999.
+fn ends_well(head: u32, place: usize, count: usize) -> bool
+    ensures { λ r. ⌜ r ≡ (leb (head / 131072 + 1) 32000 && leb place 4096 && eqb place count) ⌝ }
+{
+    if 32000 * 131072 <= head {
+        return false;
+    }
+    if 4096 < place {
+        return false;
+    }
+    place == count
+}
 
 // Whether the records of a table and their values are all in order. The number is the upper fifteen bits of a head, so heads are
-// compared: each must be over the greatest head with the number before it. Numbers rise, so the last record alone tells whether one
-// is over 31999.
+// compared: each must be over the greatest head with the number before it.
 fn in_order(t: &[u8], values: &[u32]) -> bool
-    requires { ⌜ (length (now t) % 12 ≡ 0) × (length (now t) ≤ 6144) ⌝ }
     ensures { λ r. ⌜ r ≡ (tableOk (now (t .entry)) && valuesOk (now (t .entry)) (now (values .entry))) ⌝ }
 {
-    if t.len() == 0 {
-        return 0 == values.len();
+    if t.len() < 12 {
+        return hold_both(0 == t.len(), 0 == values.len());
     }
+    if 512 * 12 < t.len() {
+        return false;
+    }
+    let last = t.len() - 12;
     let mut place: usize = 0;
     let mut at: usize = 0;
     let mut current = record_of(&t[0..12]);
@@ -152,7 +189,7 @@ fn in_order(t: &[u8], values: &[u32]) -> bool
         let most = current.head / 131072 * 131072 + 131071;
         place += run.places;
         at += 12;
-        if t.len() <= at {
+        if last < at {
             break;
         }
         current = record_of(&t[at..at + 12]);
@@ -160,13 +197,50 @@ fn in_order(t: &[u8], values: &[u32]) -> bool
             return false;
         }
     }
-    if 32000 * 131072 <= current.head {
+    if last + 12 != at {
         return false;
     }
-    if 4096 < place {
+    ends_well(current.head, place, values.len())
+}
+
+// The same pass with a list: each record's place is compared as it is reached. It has a function of its own for a record, since
+// check_record is compiled into the pass above only while that is its one caller.
+fn in_order_listed(t: &[u8], values: &[u32], places: &[u16]) -> bool
+    ensures { λ r. ⌜ r ≡ (tableOk (now (t .entry)) && valuesOk (now (t .entry)) (now (values .entry)) && sumsOk (now (places .entry)) (entries (now (t .entry))) 0) ⌝ }
+{
+    let n = places.len();
+    if 512 < n {
         return false;
     }
-    place == values.len()
+    if t.len() != 12 * n {
+        return false;
+    }
+    if n == 0 {
+        return 0 == values.len();
+    }
+    let mut place: usize = 0;
+    let mut k: usize = 0;
+    let mut current = record_of(&t[0..12]);
+    loop {
+        if places[k] as usize != place {
+            return false;
+        }
+        let taken = count_places(entry_of(current.head, current.minimum, current.maximum));
+        if !record_holds(current, values, taken, place) {
+            return false;
+        }
+        let most = current.head / 131072 * 131072 + 131071;
+        place += taken;
+        k += 1;
+        if n <= k {
+            break;
+        }
+        current = record_of(&t[12 * k..12 * k + 12]);
+        if current.head <= most {
+            return false;
+        }
+    }
+    ends_well(current.head, place, values.len())
 }
 
 // Whether n records keep the table's rules.
@@ -193,33 +267,57 @@ fn table_ok(t: &[u8], n: usize) -> bool
     place <= 4096
 }
 
-// The table and its values: 21 before 22.
-fn check_content(t: &[u8], values: &[u32]) -> Opening
-    ensures { λ r. ⌜ r ≡ contentOf (now (t .entry)) (now (values .entry)) ⌝ }
+// Whether a table keeps all its rules: for the opening check alone; others ask table_check::is_table (docs/DECISIONS.md).
+fn is_table(t: &[u8]) -> bool
+    ensures { λ r. ⌜ r ≡ tableOk (now (t .entry)) ⌝ }
 {
-    if 512 * 12 < t.len() {
-        return Opening::Closed(OpeningFault::BadTable);
-    }
+    let n = t.len() / 12;
     if t.len() % 12 != 0 {
-        return Opening::Closed(OpeningFault::BadTable);
+        return false;
+    }
+    if 512 < n {
+        return false;
+    }
+    table_ok(t, n)
+}
+
+// The table, its values and, where one is lent, the list: 21, 22, 25.
+fn check_content(t: &[u8], values: &[u32], places: &[u16], listed: bool) -> Opening
+    ensures { λ r. ⌜ r ≡ contentOf (now (t .entry)) (now (values .entry)) (lentList listed (now (places .entry))) ⌝ }
+{
+    if listed {
+        if in_order_listed(t, values, places) {
+            return Opening::Passed;
+        }
     }
     if in_order(t, values) {
+        if listed {
+            return Opening::Closed(OpeningFault::BadPlaces);
+        }
         return Opening::Passed;
     }
-    if table_ok(t, t.len() / 12) {
+    if is_table(t) {
         return Opening::Closed(OpeningFault::BadValues);
     }
     Opening::Closed(OpeningFault::BadTable)
 }
 
-// The opening check. `room` is the length of the reply buffer.
-pub fn open(setup: Setup, table: &[u8], values: &[u32], room: usize) -> Opening
-    ensures { λ r. ⌜ r ≡ openingOf (record { setup = setup; table = now (table .entry); memory = record { values = now (values .entry) }; room = room }) ⌝ }
+// The opening check. `listed` says whether a list is lent; where none is, `places` is not looked at. `room` is the length of the reply
+// buffer.
+pub fn open(
+    setup: Setup,
+    table: &[u8],
+    values: &[u32],
+    places: &[u16],
+    listed: bool,
+    room: usize,
+) -> Opening
+    ensures { λ r. ⌜ r ≡ openingOf (record { setup = setup; table = now (table .entry); memory = record { values = now (values .entry) }; list = lentList listed (now (places .entry)); room = room }) ⌝ }
 {
     if !setup_ok(setup) {
         return Opening::Closed(OpeningFault::BadSetup);
     }
-    let content = check_content(table, values);
+    let content = check_content(table, values, places, listed);
     match content {
         Opening::Closed(fault) => Opening::Closed(fault),
         Opening::Passed => {

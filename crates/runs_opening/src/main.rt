@@ -1,5 +1,5 @@
-// Runs the opening check and writes a line for each group of cases: a label, and document 01's number of each case, 0 where
-// nothing is refused.
+// Runs the opening check and writes a line for each group of cases: a label, and the document's number of each case, 0 where nothing is
+// refused. Lists of first places are lent, filled and lent, and tables are gone through by the view.
 // Kinds of a parameter: 0 word, 2 signed word, 4 double, 6 signed double; 1 more where it is writable.
 use opening::Opening;
 use opening::open;
@@ -73,7 +73,8 @@ fn check(setup: Setup, t: &[u8], length: usize, values: &[u32], count: usize, ro
     if values.len() < count {
         return;
     }
-    let answer = open(setup, &t[0..length], &values[0..count], room);
+    let none: [u16; 0] = [];
+    let answer = open(setup, &t[0..length], &values[0..count], &none, false, room);
     show(answer);
 }
 
@@ -108,6 +109,106 @@ fn count(n: u16, elements: u16, last: u16, length: usize, count: usize) {
     check(USUAL, &t, length, &values, count, 256);
 }
 
+// ---- lists and views
+
+// Three records of 2, 1 and 3 places, the last value given, and the first `count` entries of a list; a buffer of `room` bytes.
+fn list(entries: [u16; 4], count: usize, value: u32, room: usize) {
+    if 4 < count {
+        return;
+    }
+    let mut t = [0u8; 36];
+    put_record(&mut t, 0, head(1, 1, 2), 0, 10);
+    put_record(&mut t, 1, head(2, 1, 0), 0, 10);
+    put_record(&mut t, 2, head(3, 1, 3), 0, 10);
+    let mut values = [0u32; 6];
+    values[5] = value;
+    let answer = open(USUAL, &t, &values, &entries[0..count], true, room);
+    show(answer);
+}
+
+// A list lent.
+fn lend(t: &[u8], values: &[u32], list: &[u16]) {
+    show(open(USUAL, t, values, list, true, 256));
+}
+
+// A list filled from a table, then lent; then again with one entry one over: the filling's number, and the opening check's.
+fn fill_list(t: &[u8], values: &[u32], list: &mut [u16], wrong: usize) {
+    io::write_all(1, b" ");
+    io::print_decimal(1, places::fill(t, list) as u64);
+    lend(t, values, &list[..]);
+    if wrong < list.len() {
+        list[wrong] = list[wrong] % 65535 + 1;
+        lend(t, values, &list[..]);
+    }
+}
+
+// The same of the first bytes of a table with records 0 to n, with so many values, and a list of so many entries.
+fn fill(
+    n: u16,
+    elements: u16,
+    last: u16,
+    length: usize,
+    value_count: usize,
+    entry_count: usize,
+    wrong: usize,
+) {
+    let mut t = [0u8; 6156];
+    let values = [0u32; 4098];
+    let mut list = [0xffffu16; 513];
+    put_records(&mut t, n, elements, last);
+    if 6156 < length {
+        return;
+    }
+    if 4098 < value_count {
+        return;
+    }
+    if 513 < entry_count {
+        return;
+    }
+    fill_list(
+        &t[0..length],
+        &values[0..value_count],
+        &mut list[0..entry_count],
+        wrong,
+    );
+}
+
+fn show_part(x: u32) {
+    io::write_all(1, b":");
+    io::print_decimal(1, x as u64);
+}
+
+// A table seen through the view: its number, how many records it shows, the first and the last parameter.
+fn walk(table: &[u8]) {
+    let mut cursor = view::first(table);
+    io::write_all(1, b" ");
+    io::print_decimal(1, cursor.number as u64);
+    let start = view::look(table, cursor);
+    let mut count: u32 = 0;
+    let mut last: u32 = 0;
+    for k in 0..514u32 {
+        let seen = view::look(table, cursor);
+        if seen.there != 0 {
+            count = k + 1;
+            last = seen.parameter;
+        }
+        cursor = view::next(table, cursor);
+    }
+    show_part(count);
+    show_part(start.parameter);
+    show_part(last);
+}
+
+// The first bytes of a table with records 0 to n.
+fn look(n: u16, length: usize) {
+    let mut t = [0u8; 6156];
+    put_records(&mut t, n, 0, 0);
+    if 6156 < length {
+        return;
+    }
+    walk(&t[0..length]);
+}
+
 fn main() {
     run_setups();
     run_words();
@@ -117,6 +218,9 @@ fn main() {
     run_order();
     run_lengths();
     run_counts();
+    run_lists();
+    run_fillings();
+    run_views();
 }
 
 // Node, PKW words, PZD words.
@@ -212,5 +316,45 @@ fn run_counts() {
     count(16, 254, 32, 204, 4095);
     count(16, 254, 32, 204, 4097);
     count(16, 254, 33, 204, 4097);
+}
+
+// The right list; one over at the first, the middle and the last entry; one short, one long, empty; a short buffer with the right list and
+// with a wrong one; a wrong list with a bad value.
+fn run_lists() {
+    io::write_all(1, b"\nlists:");
+    list([0, 2, 3, 6], 3, 10, 256);
+    list([1, 2, 3, 6], 3, 10, 256);
+    list([0, 3, 3, 6], 3, 10, 256);
+    list([0, 2, 4, 6], 3, 10, 256);
+    list([0, 2, 3, 6], 2, 10, 256);
+    list([0, 2, 3, 6], 4, 10, 256);
+    list([0, 2, 3, 6], 0, 10, 256);
+    list([0, 2, 3, 6], 3, 10, 255);
+    list([0, 2, 3, 5], 4, 10, 255);
+    list([1, 2, 3, 6], 3, 11, 255);
+}
+
+// No record; one; 512, with an entry of the middle and the last one made wrong; 4096 places; a list one short and one long; a table of 4097
+// places.
+fn run_fillings() {
+    io::write_all(1, b"\nfillings:");
+    fill(0, 0, 0, 0, 0, 0, 600);
+    fill(0, 0, 0, 12, 1, 1, 0);
+    fill(511, 0, 0, 6144, 512, 512, 256);
+    fill(511, 0, 0, 6144, 512, 512, 511);
+    fill(16, 254, 32, 204, 4096, 17, 16);
+    fill(16, 254, 32, 204, 4096, 16, 600);
+    fill(16, 254, 32, 204, 4096, 18, 600);
+    fill(16, 254, 33, 204, 4097, 17, 600);
+}
+
+// Tables of no record, 1 and 512 records, of 513, and one with a part of a record: number, records, first and last.
+fn run_views() {
+    io::write_all(1, b"\nviews:");
+    look(0, 0);
+    look(0, 12);
+    look(511, 6144);
+    look(512, 6156);
+    look(2, 35);
     io::write_all(1, b"\n");
 }

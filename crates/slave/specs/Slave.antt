@@ -26,7 +26,7 @@ use Rattle.setup.specs.SetupRules.{areaCount, otherNode, otherLength}
 use Rattle.address.specs.Address.{decodedOf}
 use Rattle.address.specs.declared.Decoded.{Decoded}
 use Rattle.address.specs.declared.Decoded.the-variants.{Normal, Mirror, Broadcast, Unread}
-use Rattle.opening.specs.Lent.{Memory, Lent}
+use Rattle.opening.specs.Lent.{Memory, PlaceList, Lent}
 use Rattle.opening.specs.Answers.{openingOf}
 use Rattle.opening.specs.declared.Opening.{Opening}
 use Rattle.opening.specs.declared.Opening.the-variants.{Passed, Closed}
@@ -46,20 +46,21 @@ pub record Call : Type 0 where
   pub setup : Setup
   pub table : List ℕ
   pub memory : Memory
+  pub list : PlaceList
   pub control : Words
   pub status : Words
   pub received : List ℕ
   pub buffer : List ℕ
 
 abbrev pub lentBy : Call → Lent
-lentBy k = record { setup = k .setup; table = k .table; memory = k .memory; room = length (k .buffer) }
+lentBy k = record { setup = k .setup; table = k .table; memory = k .memory; list = k .list; room = length (k .buffer) }
 
 abbrev pub openingAt : Call → Opening
 openingAt k = openingOf (lentBy k)
 
 abbrev pub receiving : Call → List ℕ → Call
 receiving k rx =
-    record { setup = k .setup; table = k .table; memory = k .memory; control = k .control; status = k .status; received = rx; buffer = k .buffer }
+    record { setup = k .setup; table = k .table; memory = k .memory; list = k .list; control = k .control; status = k .status; received = rx; buffer = k .buffer }
 
 pub record Outcome : Type 0 where
   pub served : Served
@@ -137,7 +138,7 @@ broadcastCase n k =
     firstOf ((otherLength (k .setup) n, refusedOf OtherLength k) ∷ (voidIn (k .setup) n (k .received), refusedOf VoidBroadcast k) ∷ [])
     (takenOutcome n k)
 
--- ---- the call: 20 to 23, 10 to 15, then 16 to 18 by the kind of the telegram
+-- ---- the call: 20, 21, 22, 25, 23, 10 to 15, then 16 to 18 by the kind of the telegram
 
 abbrev pub executeDecoded : Decoded → Call → Outcome
 executeDecoded (Normal node start end) k = normalCase node (end - start) k

@@ -1,11 +1,12 @@
 // The slave (document 01, Slave): one call takes a received page, runs its task on the lent values, and answers.
 ghost use mathlib.Core.Path.{_≡_};
+ghost use mathlib.Core.Bool.{true};
 ghost use mathlib.Core.List.{List};
 ghost use Prim.Native.Nat.{ℕ, _+_, _-_, _*_, _≤_};
 ghost use lib.ListN.{length};
 ghost use Rattle.words.specs.declared.Words.{Words};
-ghost use Rattle.table.specs.Records.{entryAt, countsOf, entries, firstPlace};
-ghost use Rattle.opening.specs.Lent.{Memory};
+ghost use Rattle.table.specs.Records.{entryAt, countsOf, entries, firstPlace, placesOf};
+ghost use Rattle.opening.specs.Lent.{Memory, PlaceList, lentList};
 ghost use Rattle.opening.specs.Answers.{openingOf};
 ghost use Rattle.opening.specs.declared.Opening.the-variants.{Passed};
 ghost use Rattle.deed.specs.Deed.{DeedFits};
@@ -57,12 +58,15 @@ fn sum_places(t: &[u8], k: usize) -> usize
     sum
 }
 
-// The first value place of record k, in a table whose records take `count` places at most. Where there are no more places than
-// records, each takes one.
-fn first_place(t: &[u8], k: usize, count: usize) -> usize
-    requires { ⌜ (12 * k ≤ length (now t)) × (k ≤ 512) × (countsOf (entries (now t)) ≤ count) ⌝ }
+// The first value place of record k, in a table whose records take `count` places at most: looked up where a list is lent, else added
+// up. Where there are no more places than records, each takes one.
+fn first_place(t: &[u8], k: usize, count: usize, places: &[u16], listed: bool) -> usize
+    requires { ⌜ (12 * k + 12 ≤ length (now t)) × (k ≤ 512) × (countsOf (entries (now t)) ≤ count) × (listed ≡ true → now places ≡ placesOf (now t)) ⌝ }
     ensures { λ r. ⌜ r ≡ firstPlace (now (t .entry)) k ⌝ }
 {
+    if listed {
+        return places[k] as usize;
+    }
     if count == t.len() / 12 {
         return k;
     }
@@ -77,8 +81,8 @@ pub struct Plan {
 
 // The task in an area of n words, on a table of `count` places that passed the opening check. Task 0 does nothing, and no error is
 // looked for in it.
-fn plan_task(n: u8, table: &[u8], count: usize, area: Area) -> Plan
-    requires { ⌜ (length (now table) ≤ 6144) × (countsOf (entries (now table)) ≤ count) ⌝ }
+fn plan_task(n: u8, table: &[u8], count: usize, places: &[u16], listed: bool, area: Area) -> Plan
+    requires { ⌜ (length (now table) ≤ 6144) × (countsOf (entries (now table)) ≤ count) × (listed ≡ true → now places ≡ placesOf (now table)) ⌝ }
     ensures { λ r. ⌜ r ≡ planIn n (now (table .entry)) area ⌝ }
 {
     if area.pke / 4096 == 0 {
@@ -102,7 +106,7 @@ fn plan_task(n: u8, table: &[u8], count: usize, area: Area) -> Plan
         },
         Found::At(k) => {
             let e = read_record(table, k);
-            let first = first_place(table, k, count);
+            let first = first_place(table, k, count, places, listed);
             Plan {
                 deed: deed::plan(n, area, e),
                 first,
@@ -112,8 +116,15 @@ fn plan_task(n: u8, table: &[u8], count: usize, area: Area) -> Plan
 }
 
 // The parameter task of a telegram whose area has n words, if it has one.
-fn plan_area(n: u8, table: &[u8], count: usize, received: &[u8]) -> Plan
-    requires { ⌜ (length (now table) ≤ 6144) × (countsOf (entries (now table)) ≤ count) ⌝ }
+fn plan_area(
+    n: u8,
+    table: &[u8],
+    count: usize,
+    places: &[u16],
+    listed: bool,
+    received: &[u8],
+) -> Plan
+    requires { ⌜ (length (now table) ≤ 6144) × (countsOf (entries (now table)) ≤ count) × (listed ≡ true → now places ≡ placesOf (now table)) ⌝ }
     ensures { λ r. ⌜ r ≡ planAt n (now (table .entry)) (now (received .entry)) ⌝ }
 {
     if n == 0 {
@@ -124,7 +135,14 @@ fn plan_area(n: u8, table: &[u8], count: usize, received: &[u8]) -> Plan
             first: 0,
         };
     }
-    plan_task(n, table, count, area::read_area(received, n))
+    plan_task(
+        n,
+        table,
+        count,
+        places,
+        listed,
+        area::read_area(received, n),
+    )
 }
 
 // The deed done, on a record whose first value place is `first`: a task reads and writes the values here alone.
@@ -167,6 +185,8 @@ fn serve_normal(
     setup: Setup,
     table: &[u8],
     values: &mut [u32],
+    places: &[u16],
+    listed: bool,
     control: Words,
     status: Words,
     received: &[u8],
@@ -174,8 +194,8 @@ fn serve_normal(
     node: u8,
     n: usize,
 ) -> Served
-    requires { ⌜ openingOf (record { setup = setup; table = now table; memory = record { values = now values }; room = length (now reply) }) ≡ Passed ⌝ }
-    ensures { λ r. ⌜ Leaves (normalCase node n (record { setup = setup; table = now (table .entry); memory = record { values = now (values .entry) }; control = control; status = status; received = now (received .entry); buffer = now (reply .entry) })) r (record { values = now (values .exit) }) (now (reply .exit)) ⌝ }
+    requires { ⌜ openingOf (record { setup = setup; table = now table; memory = record { values = now values }; list = lentList listed (now places); room = length (now reply) }) ≡ Passed ⌝ }
+    ensures { λ r. ⌜ Leaves (normalCase node n (record { setup = setup; table = now (table .entry); memory = record { values = now (values .entry) }; list = lentList listed (now (places .entry)); control = control; status = status; received = now (received .entry); buffer = now (reply .entry) })) r (record { values = now (values .exit) }) (now (reply .exit)) ⌝ }
 {
     if node != setup.node {
         return refuse(Refusal::OtherNode, control);
@@ -185,7 +205,7 @@ fn serve_normal(
     }
     let count = setup::area_count(setup, n);
     let next = control::take_control(setup, n, control, received);
-    let plan = plan_area(count, table, values.len(), received);
+    let plan = plan_area(count, table, values.len(), places, listed, received);
     let deed = plan.deed;
     let area = do_deed(deed, plan.first, values);
     let length = net::write_normal(reply, setup.node, area, count, status, setup.pzd);
@@ -199,7 +219,7 @@ fn serve_normal(
 // A mirror telegram to a node: 16, or the telegram itself. Table, values and status words are not looked at.
 fn serve_mirror(setup: Setup, control: Words, received: &[u8], reply: &mut [u8], node: u8) -> Served
     requires { ⌜ length (now received) ≤ length (now reply) ⌝ }
-    ensures { λ r. ⌜ ((t : List ℕ) (m : Memory) (w : Words) → Leaves (mirrorCase node (record { setup = setup; table = t; memory = m; control = control; status = w; received = now (received .entry); buffer = now (reply .entry) })) r m (now (reply .exit))) ⌝ }
+    ensures { λ r. ⌜ ((t : List ℕ) (m : Memory) (l : PlaceList) (w : Words) → Leaves (mirrorCase node (record { setup = setup; table = t; memory = m; list = l; control = control; status = w; received = now (received .entry); buffer = now (reply .entry) })) r m (now (reply .exit))) ⌝ }
 {
     if node != setup.node {
         return refuse(Refusal::OtherNode, control);
@@ -214,7 +234,7 @@ fn serve_mirror(setup: Setup, control: Words, received: &[u8], reply: &mut [u8],
 
 // A broadcast with n net bytes: 17, 18, or the control words with the masked bits taken. No reply, whatever else is lent.
 fn serve_broadcast(setup: Setup, control: Words, received: &[u8], n: usize) -> Served
-    ensures { λ r. ⌜ ((t : List ℕ) (m : Memory) (w : Words) (out : List ℕ) → Leaves (broadcastCase n (record { setup = setup; table = t; memory = m; control = control; status = w; received = now (received .entry); buffer = out })) r m out) ⌝ }
+    ensures { λ r. ⌜ ((t : List ℕ) (m : Memory) (l : PlaceList) (w : Words) (out : List ℕ) → Leaves (broadcastCase n (record { setup = setup; table = t; memory = m; list = l; control = control; status = w; received = now (received .entry); buffer = out })) r m out) ⌝ }
 {
     if setup::is_other_length(setup, n) {
         return refuse(Refusal::OtherLength, control);
@@ -234,15 +254,18 @@ fn execute(
     setup: Setup,
     table: &[u8],
     values: &mut [u32],
+    places: &[u16],
+    listed: bool,
     control: Words,
     status: Words,
     received: &[u8],
     reply: &mut [u8],
 ) -> Served
-    requires { ⌜ openingOf (record { setup = setup; table = now table; memory = record { values = now values }; room = length (now reply) }) ≡ Passed ⌝ }
-    ensures { λ r. ⌜ Leaves (executeOf (record { setup = setup; table = now (table .entry); memory = record { values = now (values .entry) }; control = control; status = status; received = now (received .entry); buffer = now (reply .entry) })) r (record { values = now (values .exit) }) (now (reply .exit)) ⌝ }
+    requires { ⌜ openingOf (record { setup = setup; table = now table; memory = record { values = now values }; list = lentList listed (now places); room = length (now reply) }) ≡ Passed ⌝ }
+    ensures { λ r. ⌜ Leaves (executeOf (record { setup = setup; table = now (table .entry); memory = record { values = now (values .entry) }; list = lentList listed (now (places .entry)); control = control; status = status; received = now (received .entry); buffer = now (reply .entry) })) r (record { values = now (values .exit) }) (now (reply .exit)) ⌝ }
 {
-    match address::decode(received) {
+    // address::decode, written out so that both are compiled into this call (docs/DECISIONS.md)
+    match address::decode_found(frame::check(received), received) {
         Decoded::Unread(fault) => refuse(Refusal::InTelegram(fault), control),
         Decoded::Mirror { node } => serve_mirror(setup, control, received, reply, node),
         Decoded::Broadcast => serve_broadcast(setup, control, received, received.len() - 4),
@@ -256,6 +279,8 @@ fn execute(
                 setup,
                 table,
                 values,
+                places,
+                listed,
                 control,
                 status,
                 received,
@@ -267,21 +292,33 @@ fn execute(
     }
 }
 
-// The slave call. A refusal writes nothing and returns the given control state; a reply writes only its own bytes at the
-// buffer's start; a change writes one place.
+// The slave call, with a list of first places where `listed` says so; without, `places` is not looked at. A refusal writes nothing and
+// returns the given control state; a reply writes only its own bytes at the buffer's start; a change writes one place.
 pub fn serve(
     setup: Setup,
     table: &[u8],
     values: &mut [u32],
+    places: &[u16],
+    listed: bool,
     control: Words,
     status: Words,
     received: &[u8],
     reply: &mut [u8],
 ) -> Served
-    ensures { λ r. ⌜ Leaves (callOf (record { setup = setup; table = now (table .entry); memory = record { values = now (values .entry) }; control = control; status = status; received = now (received .entry); buffer = now (reply .entry) })) r (record { values = now (values .exit) }) (now (reply .exit)) ⌝ }
+    ensures { λ r. ⌜ Leaves (callOf (record { setup = setup; table = now (table .entry); memory = record { values = now (values .entry) }; list = lentList listed (now (places .entry)); control = control; status = status; received = now (received .entry); buffer = now (reply .entry) })) r (record { values = now (values .exit) }) (now (reply .exit)) ⌝ }
 {
-    match opening::open(setup, table, &values[..], reply.len()) {
+    match opening::open(setup, table, &values[..], places, listed, reply.len()) {
         Opening::Closed(fault) => refuse(Refusal::AtOpening(fault), control),
-        Opening::Passed => execute(setup, table, values, control, status, received, reply),
+        Opening::Passed => execute(
+            setup,
+            table,
+            values,
+            places,
+            listed,
+            control,
+            status,
+            received,
+            reply,
+        ),
     }
 }

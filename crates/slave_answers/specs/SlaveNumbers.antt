@@ -1,11 +1,11 @@
 -- The document's numbers of a slave call's answers (document 01, Answer numbers).
---     openingNumber f      a refusal by the opening check, 20 to 23
---     refusalNumber f      a refusal, 20 to 23 and 10 to 18
+--     openingNumber f      a refusal by the opening check, 20 to 23 and 25
+--     refusalNumber f      a refusal, 20 to 23, 25 and 10 to 18
 --     answerNumber a       an answer, 0, 1, 2 where it is no refusal
 use Prim.Native.Nat.{ℕ}
 use Rattle.address.specs.Address.{faultNumber}
 use Rattle.slave_answers.specs.declared.OpeningFault.{OpeningFault}
-use Rattle.slave_answers.specs.declared.OpeningFault.the-variants.{BadSetup, BadTable, BadValues, ShortBuffer}
+use Rattle.slave_answers.specs.declared.OpeningFault.the-variants.{BadSetup, BadTable, BadValues, BadPlaces, ShortBuffer}
 use Rattle.slave_answers.specs.declared.Refusal.{Refusal}
 use Rattle.slave_answers.specs.declared.Refusal.the-variants.{AtOpening, InTelegram, OtherNode, OtherLength, VoidBroadcast}
 use Rattle.slave_answers.specs.declared.Answer.{Answer}
@@ -15,6 +15,7 @@ abbrev pub openingNumber : OpeningFault → ℕ
 openingNumber BadSetup = 20
 openingNumber BadTable = 21
 openingNumber BadValues = 22
+openingNumber BadPlaces = 25
 openingNumber ShortBuffer = 23
 
 abbrev pub refusalNumber : Refusal → ℕ

@@ -4,13 +4,14 @@ ghost use mathlib.Core.Path.{_≡_};
 ghost use Rattle.slave_answers.specs.SlaveNumbers.{openingNumber, refusalNumber, answerNumber};
 use address::Fault;
 
-// ---- the opening check: 20 to 23
+// ---- the opening check: 20 to 23 and 25
 
 // Why the opening check refuses.
 pub enum OpeningFault {
     BadSetup,
     BadTable,
     BadValues,
+    BadPlaces,
     ShortBuffer,
 }
 
@@ -22,13 +23,14 @@ pub fn number_opening(fault: OpeningFault) -> u32
         OpeningFault::BadSetup => 20,
         OpeningFault::BadTable => 21,
         OpeningFault::BadValues => 22,
+        OpeningFault::BadPlaces => 25,
         OpeningFault::ShortBuffer => 23,
     }
 }
 
-// ---- the slave: 20 to 23, 10 to 18, 0, 1, 2
+// ---- the slave: 20 to 23 and 25, 10 to 18, 0, 1, 2
 
-// Why a call is refused: by the opening check (20 to 23), by the frame or the address (10 to 15), or 16, 17, 18.
+// Why a call is refused: by the opening check (20 to 23, 25), by the frame or the address (10 to 15), or 16, 17, 18.
 pub enum Refusal {
     AtOpening(OpeningFault),
     InTelegram(Fault),

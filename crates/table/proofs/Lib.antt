@@ -1,2 +1,3 @@
 -- Laws of the records of a table.
 pub mod RecordsLaws
+pub mod PlacesLaws

@@ -128,7 +128,7 @@ unfolding countsOf
 counts-more e es = refl
 
 -- the records before k, and those from k on
-counts-split : (t : List ℕ) (k n j : ℕ) → countsOf (entriesFrom t (k + n) j) ≡ countsOf (entriesFrom t k j) + countsOf (entriesFrom t n (j + k))
+pub counts-split : (t : List ℕ) (k n j : ℕ) → countsOf (entriesFrom t (k + n) j) ≡ countsOf (entriesFrom t k j) + countsOf (entriesFrom t n (j + k))
 unfolding countsOf entriesFrom
 counts-split t zero n j = simp (zero-add, add-zero)
 counts-split t (suc k) n j =

@@ -7,6 +7,8 @@
 --     findIn t number       the place of the first record with that number
 --     countsOf es           the value places that records take
 --     firstPlace t k        the first value place of record k: the sum of the places of the records before it
+--     placesFrom es place   the first places of records in order, the first record's at `place`
+--     placesOf t            the first places of all records of a table (document 02, W-205)
 use Prim.Native.Nat.{ℕ, zero, suc, _+_, _*_, _/_}
 use mathlib.Core.List.{List, [], _∷_}
 use mathlib.Core.Bool.{cond}
@@ -48,3 +50,10 @@ countsOf (e ∷ es) = countOf e + countsOf es
 
 abbrev pub firstPlace : List ℕ → ℕ → ℕ
 firstPlace t k = countsOf (entriesFrom t k 0)
+
+unfoldable pub placesFrom : List Entry → ℕ → List ℕ
+placesFrom [] place = []
+placesFrom (e ∷ es) place = place ∷ placesFrom es (place + countOf e)
+
+abbrev pub placesOf : List ℕ → List ℕ
+placesOf t = placesFrom (entries t) 0

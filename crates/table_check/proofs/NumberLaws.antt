@@ -17,14 +17,14 @@ use Rattle.entry.specs.Fields.{countOf}
 use Rattle.limits.specs.Limits.{fitsIn, atMost, isWithin, entryOk}
 use Rattle.table.specs.Records.{entriesFrom, entries, countsOf}
 use Rattle.opening.specs.Rules.{risingFrom, eachOk, runOk, runsOk, tableOk, valuesOk}
-use Rattle.opening.specs.Answers.{contentOf}
+use Rattle.opening.specs.Lent.{Unlisted}
+use Rattle.opening.specs.Answers.{openedNumber, contentOf}
 use Rattle.opening.proofs.PassLaws.{ruledFrom, rule-low, rule-broken, rule-on, rule-end, rule-all}
 use Rattle.opening.proofs.ContentLaws.{content-passed, content-values, content-table, part-table, long-table}
 use Rattle.table_check.specs.declared.Rule.{Rule}
 use Rattle.table_check.specs.declared.Rule.the-variants.{Kept, NumberOrder, HighNumber, ManyElements, SpareBit, UpperHalf, LimitOrder, ManyPlaces, OutsideLimits}
 use Rattle.table_check.specs.declared.TableCheck.{TableCheck}
 use Rattle.table_check.specs.Checks.{told, ruleRows, recordRule, recordsCheck, runCheck, runsCheck, tableCheckOf}
-use Rattle.table_check.specs.Faults.{contentNumber}
 use Rattle.table_check.proofs.CheckLaws.{isKept, answer-kept, records-broken, records-on, records-end, runs-outside, runs-on, runs-end, check-part, check-many, check-records-told, check-count, check-runs}
 
 -- ---- a record
@@ -189,13 +189,13 @@ module _ (t vs : List ℕ) where
       go true p false q = whole-answer (eqb-true (length t % 12) 0 p) (ltb-false 512 (length t / 12) q)
 
   -- it is the opening check's
-  pub number-opening-is : tableCheckOf t vs .number ≡ contentNumber (contentOf t vs)
+  pub number-opening-is : tableCheckOf t vs .number ≡ openedNumber (contentOf t vs Unlisted)
   number-opening-is = number-is ∙ go (tableOk t) refl (valuesOk t vs) refl
     where
-      go : (a : Bool) → tableOk t ≡ a → (b : Bool) → valuesOk t vs ≡ b → numbered a b ≡ contentNumber (contentOf t vs)
-      go false p b q = rw (content-table t vs p)
-      go true p false q = rw (content-values t vs (rw (p, q)) p)
-      go true p true q = rw (content-passed t vs (rw (p, q)))
+      go : (a : Bool) → tableOk t ≡ a → (b : Bool) → valuesOk t vs ≡ b → numbered a b ≡ openedNumber (contentOf t vs Unlisted)
+      go false p b q = rw (content-table t vs Unlisted p)
+      go true p false q = rw (content-values t vs Unlisted (rw (p, q)) p)
+      go true p true q = rw (content-passed t vs Unlisted (rw (p, q)) refl)
 
   -- each number exactly when
   pub number-21-exactly : (tableCheckOf t vs .number ≡ 21) ↔ (tableOk t ≡ false)

@@ -1,5 +1,4 @@
--- What a check of a table names, and the opening check's number beside it.
---     contentNumber o       the number of the opening check's answer on table and values: 0, 21 or 22
+-- What a check of a table names.
 --     leastAt t k           the least number that record k may have: one over that of the record before it
 --     ruleAt t k            the first rule that record k of a table breaks
 --     RecordNamed t r       r names the first record that breaks a rule, and the first rule that it breaks
@@ -9,21 +8,14 @@ use mathlib.Core.Path.{_≡_}
 use mathlib.Core.List.{List}
 use mathlib.Core.Bool.{true, false}
 use lib.ListN.{length, getD}
-use Rattle.slave_answers.specs.SlaveNumbers.{openingNumber}
 use Rattle.entry.specs.Fields.{countOf}
 use Rattle.limits.specs.Limits.{isWithin}
 use Rattle.table.specs.Records.{entryAt, firstPlace}
-use Rattle.opening.specs.declared.Opening.{Opening}
-use Rattle.opening.specs.declared.Opening.the-variants.{Passed, Closed}
 use Rattle.table_check.specs.declared.Rule.{Rule}
 use Rattle.table_check.specs.declared.Rule.the-variants.{Kept, OutsideLimits}
 use Rattle.table_check.specs.declared.TableCheck.{TableCheck}
 use Rattle.table_check.specs.RuleNumbers.{ruleNumber}
 use Rattle.table_check.specs.Checks.{recordRule}
-
-abbrev pub contentNumber : Opening → ℕ
-contentNumber Passed = 0
-contentNumber (Closed fault) = openingNumber fault
 
 abbrev pub leastAt : List ℕ → ℕ → ℕ
 leastAt t zero = 0

@@ -6,6 +6,7 @@ ghost use Prim.Native.Nat.{_+_, _*_, _≤_};
 ghost use lib.ListN.{length};
 ghost use Rattle.limits.specs.Limits.{fitsIn};
 ghost use Rattle.table.specs.Records.{entryAt, entriesFrom, countsOf};
+ghost use Rattle.opening.specs.Rules.{tableOk};
 ghost use Rattle.table_check.specs.RuleNumbers.{ruleNumber, ruleAnswer};
 ghost use Rattle.table_check.specs.Checks.{told, endOf, recordRule, recordsCheck, runCheck, runsCheck, tableCheckOf};
 use entry::Entry;
@@ -216,6 +217,20 @@ fn check_values(t: &[u8], n: usize, values: &[u32]) -> TableCheck
         k += 1;
     }
     tell(Rule::Kept, 0, 0)
+}
+
+// Whether a table keeps all its rules.
+pub fn is_table(table: &[u8]) -> bool
+    ensures { λ r. ⌜ r ≡ tableOk (now (table .entry)) ⌝ }
+{
+    let n = table.len() / 12;
+    if table.len() % 12 != 0 {
+        return false;
+    }
+    if 512 < n {
+        return false;
+    }
+    check_records(table, n).number == 0
 }
 
 // ---- table and values

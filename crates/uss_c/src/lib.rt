@@ -6,11 +6,16 @@ ghost use Prim.Native.Nat.{ℕ};
 ghost use Rattle.bcc.specs.Bcc.{xorAll};
 ghost use Rattle.receiver.specs.Receive.{receivedOf, Leaves};
 ghost use Rattle.request.specs.declared.Request.the-variants.{Task, Mirror, Broadcast};
+ghost use Rattle.opening.specs.Lent.{Unlisted, Listed};
 ghost use Rattle.slave.specs.Slave.{callOf};
 ghost use Rattle.master.specs.Build.{builtOf};
 ghost use Rattle.reply.specs.Reply.{readOf};
 ghost use Rattle.listing.specs.Listing.{listedOf};
 ghost use Rattle.table_check.specs.Checks.{tableCheckOf};
+ghost use lib.ListN.{length};
+ghost use Rattle.opening.specs.Answers.{openedNumber};
+ghost use Rattle.places.specs.Fill.{fillingOf, filledBy};
+ghost use Rattle.view.specs.View.{openOf, showOf, stepOf};
 ghost use Rattle.figure.specs.declared.Unit.the-variants.{Hertz, Percent, Raw};
 ghost use Rattle.figure.specs.Figures.{figureOf};
 ghost use Rattle.host_slave.specs.Host.{SlaveLeaves};
@@ -26,6 +31,8 @@ use receiver::Received;
 use receiver::Receiver;
 use setup::Setup;
 use table_check::TableCheck;
+use view::Cursor;
+use view::Shown;
 use words::Words;
 
 #[no_mangle]
@@ -60,9 +67,34 @@ pub extern "C" fn uss_slave(
     received: &[u8],
     reply: &mut [u8],
 ) -> HostAnswer
-    ensures { λ r. ⌜ SlaveLeaves (callOf (record { setup = setup; table = now (table .entry); memory = record { values = now (values .entry) }; control = control; status = status; received = now (received .entry); buffer = now (reply .entry) })) r (record { values = now (values .exit) }) (now (reply .exit)) ⌝ }
+    ensures { λ r. ⌜ SlaveLeaves (callOf (record { setup = setup; table = now (table .entry); memory = record { values = now (values .entry) }; list = Unlisted; control = control; status = status; received = now (received .entry); buffer = now (reply .entry) })) r (record { values = now (values .exit) }) (now (reply .exit)) ⌝ }
 {
     host_slave::serve(setup, table, values, control, status, received, reply)
+}
+
+#[no_mangle]
+pub extern "C" fn uss_slave_listed(
+    setup: Setup,
+    table: &[u8],
+    values: &mut [u32],
+    places: &[u16],
+    control: Words,
+    status: Words,
+    received: &[u8],
+    reply: &mut [u8],
+) -> HostAnswer
+    ensures { λ r. ⌜ SlaveLeaves (callOf (record { setup = setup; table = now (table .entry); memory = record { values = now (values .entry) }; list = Listed (now (places .entry)); control = control; status = status; received = now (received .entry); buffer = now (reply .entry) })) r (record { values = now (values .exit) }) (now (reply .exit)) ⌝ }
+{
+    host_slave::serve_listed(
+        setup,
+        table,
+        values,
+        places,
+        control,
+        status,
+        received,
+        reply,
+    )
 }
 
 #[no_mangle]
@@ -136,6 +168,35 @@ pub extern "C" fn uss_check_table(table: &[u8], values: &[u32]) -> TableCheck
     ensures { λ r. ⌜ r ≡ tableCheckOf (now (table .entry)) (now (values .entry)) ⌝ }
 {
     table_check::check_table(table, values)
+}
+
+#[no_mangle]
+pub extern "C" fn uss_fill_places(table: &[u8], places: &mut [u16]) -> u32
+    ensures { λ r. ⌜ r ≡ openedNumber (fillingOf (now (table .entry)) (length (now (places .entry)))) ⌝ }
+    ensures { λ _. ⌜ now (places .exit) ≡ filledBy (fillingOf (now (table .entry)) (length (now (places .entry)))) (now (table .entry)) (now (places .entry)) ⌝ }
+{
+    places::fill(table, places)
+}
+
+#[no_mangle]
+pub extern "C" fn uss_view_open(table: &[u8]) -> Cursor
+    ensures { λ r. ⌜ r ≡ openOf (now (table .entry)) ⌝ }
+{
+    view::first(table)
+}
+
+#[no_mangle]
+pub extern "C" fn uss_view_show(table: &[u8], view: Cursor) -> Shown
+    ensures { λ r. ⌜ r ≡ showOf (now (table .entry)) view ⌝ }
+{
+    view::look(table, view)
+}
+
+#[no_mangle]
+pub extern "C" fn uss_view_step(table: &[u8], view: Cursor) -> Cursor
+    ensures { λ r. ⌜ r ≡ stepOf (now (table .entry)) view ⌝ }
+{
+    view::next(table, view)
 }
 
 #[no_mangle]

@@ -1,5 +1,8 @@
 -- `broadcast::is_void` meets its contract: at each `return` the tests that led there pick the row. Assumes nothing.
-use mathlib.Core.Logic.{⊎-elim}
+use mathlib.Core.Path.{_≡_, refl}
+use mathlib.Core.Bool.{Bool, true, false, cond}
+use borrow.Author.Tests.{ne-eqb}
+use lib.Dec.{ltb}
 use Rattle.rows.proofs.RowsLaws.{tests}
 use Rattle.broadcast.specs.Broadcast.{isVoid}
 use Rattle.broadcast.proofs.is_void.Statement.{statement}
@@ -35,21 +38,40 @@ returns-7 : tie.Need-returns-7
 unfolding isVoid
 returns-7 c = search tests
 
+-- rows before one that holds do not show
+same : (b : Bool) → cond b true true ≡ true
+same true = refl
+same false = refl
+
 returns-8 : tie.Need-returns-8
 unfolding isVoid
-returns-8 c = search tests
+returns-8 c =
+    let start : tie.Start = search in
+    simp (ne-eqb (start .args .command .fourth) 0 (c .if8 .taken), same)
+
+-- the last row that is left decides
+decides : (b : Bool) → b ≡ cond b true false
+decides true = refl
+decides false = refl
 
 returns-9 : tie.Need-returns-9
 unfolding isVoid
 returns-9 c =
-    let joined8 : tie.Joined8 = search in
-    ⊎-elim (λ w. search tests) (λ w. search tests) (joined8 .if8 .came)
+    let e8 : tie.Else8 = search in
+    let e7 : tie.Else7 = search in
+    let e6 : tie.Else6 = search in
+    let e5 : tie.Else5 = search in
+    let e4 : tie.Else4 = search in
+    let e3 : tie.Else3 = search in
+    let e2 : tie.Else2 = search in
+    let e1 : tie.Else1 = search in
+    let start : tie.Start = search in
+    let a = start .args in
+    rw (ne-eqb (a .pkw) 0 (e1 .if1 .left), ne-eqb (a .pzd) 0 (e2 .if2 .left), e3 .if3 .left, e4 .if4 .left, e5 .if5 .left, e6 .if6 .left, e7 .if7 .left, e8 .if8 .left, c .if9 .taken) (decides (ltb (a .pzd) 2))
 
 returns-10 : tie.Need-returns-10
 unfolding isVoid
-returns-10 c =
-    let joined8 : tie.Joined8 = search in
-    ⊎-elim (λ w. search tests) (λ w. search tests) (joined8 .if8 .came)
+returns-10 c = search tests
 
 pub is-void-spec : {M : Type 1} → statement M
 is-void-spec =

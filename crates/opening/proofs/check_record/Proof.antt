@@ -1,11 +1,10 @@
 -- `opening::check_record` meets its contract. Assumes nothing.
 use Prim.Native.Nat.{_/_, _%_}
-use mathlib.Core.Path.{_≡_, refl}
+use mathlib.Core.Path.{_≡_}
 use native.Mathlib.Omega.{arith}
 use denote.Ref.{now}
-use Rattle.entry.specs.Fields.{entryOf}
 use Rattle.entry.proofs.CountLaws.{count-none, count-some}
-use Rattle.opening.proofs.RecordLaws.{elements-over, spare-set, plain-limits, fine-broken, fine-run}
+use Rattle.opening.proofs.RecordLaws.{low-bits, elements-over, spare-set, plain-limits, fine-broken, fine-run}
 use borrow.Author.Needs.{needs}
 use Rattle.opening.proofs.check_record.Statement.{statement}
 use Rattle.opening.proofs.check_record.Tie as tie
@@ -16,13 +15,11 @@ use Rattle.opening.proofs.run_holds.Reads as run-holds-reads
 use Rattle.opening.proofs.value_holds.Reads as value-holds-reads
 
 -- the low fourteen bits of the head
-low-bits : (c : tie.After-entry-of) →
-    let e = c .entry-of .result in
-    let start : tie.Start = search in
-    let head = start .args .raw .head in
-    (e .elements ≡ head / 64 % 256) × (e .spare ≡ head % 64)
-unfolding entryOf
-low-bits c = rw (c .entry-of .ensures) (refl, refl)
+abbrev start-of : tie.After-entry-of → tie.Start
+start-of c = search
+
+low : (c : tie.After-entry-of) → (let head = start-of c .args .raw .head in (c .entry-of .result .elements ≡ head / 64 % 256) × (c .entry-of .result .spare ≡ head % 64))
+low c = low-bits (start-of c .args .raw) _ (c .entry-of .ensures)
 
 entry-of-requires : tie.Need-entry-of-requires
 entry-of-requires c κs = search needs
@@ -37,8 +34,8 @@ returns c =
     let start : tie.Start = search in
     let a = start .args in
     let e = d .entry-of .result in
-    let none : e .elements ≡ 0 = omega (arith, low-bits d) in
-    let clear : e .spare ≡ 0 = omega (arith, low-bits d) in
+    let none : e .elements ≡ 0 = omega (arith, low d) in
+    let clear : e .spare ≡ 0 = omega (arith, low d) in
     rw (← (d .entry-of .ensures)) (fine-run e (now (a .values)) (a .place) 1 _ (count-none e none) (plain-limits e (omega arith) clear) (c .value-holds .ensures))
 
 returns-2 : tie.Need-returns-2
@@ -64,7 +61,7 @@ cast-n c = search needs
 run-holds-requires : tie.Need-run-holds-requires
 run-holds-requires c κs =
     let after-entry-of : tie.After-entry-of = search in
-    omega (arith, low-bits (after-entry-of))
+    omega (arith, low after-entry-of)
 
 returns-4 : tie.Need-returns-4
 returns-4 c =
@@ -75,7 +72,7 @@ returns-4 c =
     let start : tie.Start = search in
     let a = start .args in
     let e = d .entry-of .result in
-    let some : e .elements ≡ 0 → ⊥ = λ z. else1 .if1 .left (omega (arith, low-bits d)) in
+    let some : e .elements ≡ 0 → ⊥ = λ z. else1 .if1 .left (omega (arith, low d)) in
     rw (← (d .entry-of .ensures)) (fine-run e (now (a .values)) (a .place) _ _ (count-some e some) (plain-limits e (f .if3 .left) (s .if2 .left)) (c .run-holds .ensures))
 
 pub check-record-spec : {M : Type 1} → statement M

@@ -75,7 +75,7 @@ first-place-requires c κs =
     let f : tie.After-find = search in
     let s = start-of f in
     let h = found-whole (s .args .table .now) _ _ (find-gives f ∙ k .k .given .1) in
-    (omega arith, omega (arith, s .pre .0), s .pre .1)
+    (h, omega (arith, s .pre .0), s .pre .1, s .pre .2)
 
 plan-requires : tie.Need-plan-requires
 plan-requires c κs = search needs

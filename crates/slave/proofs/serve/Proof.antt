@@ -2,6 +2,7 @@
 use mathlib.Core.Path.{refl, sym, _∙_}
 use Rattle.slave.proofs.CaseLaws.{called}
 use Rattle.slave.specs.Slave.{Call}
+use Rattle.opening.specs.Lent.{lentList}
 use borrow.Author.Needs.{needs}
 use Rattle.slave.proofs.serve.Statement.{statement}
 use Rattle.slave.proofs.serve.Tie as tie
@@ -17,6 +18,7 @@ call s = record {
   setup = s .args .setup;
   table = s .args .table .now;
   memory = record { values = s .args .values .now };
+  list = lentList (s .args .listed) (s .args .places .now);
   control = s .args .control;
   status = s .args .status;
   received = s .args .received .now;

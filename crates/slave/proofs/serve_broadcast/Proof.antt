@@ -3,7 +3,7 @@ use mathlib.Core.Path.{refl, ap, sym, _∙_}
 use Prim.Native.Nat.{ℕ}
 use mathlib.Core.List.{List}
 use Rattle.words.specs.declared.Words.{Words}
-use Rattle.opening.specs.Lent.{Memory}
+use Rattle.opening.specs.Lent.{Memory, PlaceList}
 use Rattle.slave_answers.specs.declared.Answer.the-variants.{Taken}
 use Rattle.control.proofs.ControlLaws.{is-void, is-changed}
 use Rattle.slave.specs.Slave.{Call}
@@ -18,11 +18,12 @@ use Rattle.setup.proofs.is_other_length.Reads as is-other-length-reads
 use Rattle.slave.proofs.refuse.Reads as refuse-reads
 
 -- the call that the parameters make, whatever else is lent
-abbrev call : tie.Start → List ℕ → Memory → Words → List ℕ → Call
-call s t m w out = record {
+abbrev call : tie.Start → List ℕ → Memory → PlaceList → Words → List ℕ → Call
+call s t m l w out = record {
   setup = s .args .setup;
   table = t;
   memory = m;
+  list = l;
   control = s .args .control;
   status = w;
   received = s .args .received .now;
@@ -41,7 +42,7 @@ returns c =
     let l : tie.After-is-other-length = search in
     let start : tie.Start = search in
     let a = start .args in
-    λ t m w out. rw (broadcast-other-length (a .n) (call start t m w out) (sym (l .is-other-length .ensures) ∙ then1 .if1 .taken)) (record { answers = c .refuse .ensures; memory-is = refl; reply-is = refl })
+    λ t m pl w out. rw (broadcast-other-length (a .n) (call start t m pl w out) (sym (l .is-other-length .ensures) ∙ then1 .if1 .taken)) (record { answers = c .refuse .ensures; memory-is = refl; reply-is = refl })
 
 take-command-requires : tie.Need-take-command-requires
 take-command-requires c κs = search needs
@@ -64,7 +65,7 @@ returns-2 c =
     let start : tie.Start = search in
     let a = start .args in
     let void = is-void (a .setup) (a .n) (a .control) (a .received .now) (sym (command .take-command .ensures) ∙ told .enum-told .given .1) in
-    λ t m w out. rw (broadcast-void (a .n) (call start t m w out) (sym (l .is-other-length .ensures) ∙ else1 .if1 .left) void) (record { answers = c .refuse2 .ensures; memory-is = refl; reply-is = refl })
+    λ t m pl w out. rw (broadcast-void (a .n) (call start t m pl w out) (sym (l .is-other-length .ensures) ∙ else1 .if1 .left) void) (record { answers = c .refuse2 .ensures; memory-is = refl; reply-is = refl })
 
 returns-3 : tie.Need-returns-3
 returns-3 c =
@@ -75,7 +76,7 @@ returns-3 c =
     let start : tie.Start = search in
     let a = start .args in
     let changed = is-changed (a .setup) (a .n) (a .control) (a .received .now) _ (sym (command .take-command .ensures) ∙ next .next .given .1) in
-    λ t m w out. rw (broadcast-taken (a .n) (call start t m w out) (sym (l .is-other-length .ensures) ∙ else1 .if1 .left) (changed .0))
+    λ t m pl w out. rw (broadcast-taken (a .n) (call start t m pl w out) (sym (l .is-other-length .ensures) ∙ else1 .if1 .left) (changed .0))
     (record { answers = ap (λ (x : Words). record { answer = Taken; length = 0; control = x }) (changed .1); memory-is = refl; reply-is = refl })
 
 pub serve-broadcast-spec : {M : Type 1} → statement M

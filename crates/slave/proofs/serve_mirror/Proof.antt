@@ -6,7 +6,7 @@ use Rattle.words.specs.declared.Words.{Words}
 use Rattle.setup.proofs.SetupLaws.{node-own, node-other}
 use Rattle.store.specs.Placed.{Placed}
 use Rattle.store.proofs.StoreLaws.{put-front}
-use Rattle.opening.specs.Lent.{Memory}
+use Rattle.opening.specs.Lent.{Memory, PlaceList}
 use Rattle.slave_answers.specs.declared.Answer.the-variants.{Mirrored}
 use Rattle.slave.specs.Slave.{Call}
 use Rattle.slave.proofs.CaseLaws.{mirror-other-node, mirror-sent}
@@ -19,11 +19,12 @@ use Rattle.slave.proofs.refuse.Reads as refuse-reads
 use Rattle.store.proofs.put.Reads as put-reads
 
 -- the call that the parameters make, whatever else is lent
-abbrev call : tie.Start → List ℕ → Memory → Words → Call
-call s t m w = record {
+abbrev call : tie.Start → List ℕ → Memory → PlaceList → Words → Call
+call s t m l w = record {
   setup = s .args .setup;
   table = t;
   memory = m;
+  list = l;
   control = s .args .control;
   status = w;
   received = s .args .received .now;
@@ -38,7 +39,7 @@ returns c =
     let then1 : tie.Then1 = search in
     let start : tie.Start = search in
     let a = start .args in
-    λ t m w. rw (mirror-other-node (a .node) (call start t m w) (node-other (a .setup) (a .node) (then1 .if1 .taken))) (record { answers = c .refuse .ensures; memory-is = refl; reply-is = refl })
+    λ t m pl w. rw (mirror-other-node (a .node) (call start t m pl w) (node-other (a .setup) (a .node) (then1 .if1 .taken))) (record { answers = c .refuse .ensures; memory-is = refl; reply-is = refl })
 
 put-requires : tie.Need-put-requires
 put-requires c κs = search needs
@@ -53,7 +54,7 @@ returns-2 c =
     let start : tie.Start = search in
     let a = start .args in
     let f = put-front (a .reply .now) (a .received .now) (start .pre) in
-    λ t m w. rw (mirror-sent (a .node) (call start t m w) (node-own (a .setup) (a .node) (else1 .if1 .left)))
+    λ t m pl w. rw (mirror-sent (a .node) (call start t m pl w) (node-own (a .setup) (a .node) (else1 .if1 .left)))
     (record {
       answers = ap (λ (n : ℕ). record { answer = Mirrored; length = n; control = a .control }) (p .put .ensures .0 ∙ ap (λ (x : Placed). x .place) f);
       memory-is = refl;

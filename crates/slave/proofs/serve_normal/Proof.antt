@@ -4,10 +4,12 @@ use native.Mathlib.Omega.{arith}
 use Rattle.setup.specs.SetupRules.{areaCount}
 use Rattle.setup.proofs.SetupLaws.{ok-configured, node-own, node-other}
 use Rattle.opening.proofs.AnswersLaws.{Opened, passed-opened}
+use Rattle.opening.proofs.SumsLaws.{lent-right}
 use Rattle.slave.proofs.CaseLaws.{normal-other-node, normal-other-length, normal-replied, reply-sent}
 use Rattle.slave.specs.Slave.{Call, lentBy}
 use Rattle.slave.specs.Perform.{planAt}
 use Rattle.slave.proofs.PerformLaws.{plan-fits}
+use Rattle.opening.specs.Lent.{lentList}
 use borrow.Author.Needs.{needs}
 use Rattle.slave.proofs.serve_normal.Statement.{statement}
 use Rattle.slave.proofs.serve_normal.Tie as tie
@@ -27,6 +29,7 @@ call s = record {
   setup = s .args .setup;
   table = s .args .table .now;
   memory = record { values = s .args .values .now };
+  list = lentList (s .args .listed) (s .args .places .now);
   control = s .args .control;
   status = s .args .status;
   received = s .args .received .now;
@@ -75,7 +78,7 @@ plan-area-requires : tie.Need-plan-area-requires
 plan-area-requires c κs =
     let start : tie.Start = search in
     let o = opened start in
-    (o .short, omega (arith, o .count))
+    (o .short, omega (arith, o .count), lent-right (start .args .table .now) (start .args .listed) (start .args .places .now) (o .list-right))
 
 -- what the telegram asks
 planned : (c : tie.After-plan-area) → (let s : tie.Start = search in let a = s .args in c .plan-area .result ≡ planAt (areaCount (a .setup) (a .n)) (a .table .now) (a .received .now))

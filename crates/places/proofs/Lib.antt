@@ -1,0 +1,2 @@
+-- Laws of the list of first places.
+pub mod FillLaws

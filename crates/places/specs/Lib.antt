@@ -1,0 +1,2 @@
+-- The list of first places, filled.
+pub mod Fill

@@ -1,0 +1,2 @@
+-- A view of a table.
+pub mod View
