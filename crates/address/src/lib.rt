@@ -1,4 +1,6 @@
 // The address byte and the decoded telegram (document 01, Frame and answer number 15).
+#![tactic(auto)]
+
 ghost use Rattle.std.specs.Prelude.{◌≡◌};
 ghost use Rattle.frame.specs.Frame.{frame_number};
 ghost use Rattle.address.specs.Address.{address_of, kind_of, decoded_of, fault_number, decoded_from, adr_of};
@@ -6,7 +8,7 @@ ghost use Rattle.address.specs.Address.{address_of, kind_of, decoded_of, fault_n
 use frame::{FrameCheck, FrameFault};
 
 // What the address byte says: one node, one node's mirror, all nodes, or nobody (15).
-#[derive(Drop)]
+#[derive(Clone, Copy)]
 pub enum Address {
     ToOne(u8),
     ToMirror(u8),
@@ -15,14 +17,14 @@ pub enum Address {
 }
 
 // Why no telegram could be read: a fault of the frame check, or of the address byte (15).
-#[derive(Drop)]
+#[derive(Clone, Copy)]
 pub enum Fault {
     InFrame(FrameFault),
     InAddress,
 }
 
 // Received bytes as a telegram: one of the three kinds, or a refusal.
-#[derive(Drop)]
+#[derive(Clone, Copy)]
 pub enum Decoded {
     Normal {
         node: u8,

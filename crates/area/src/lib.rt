@@ -1,5 +1,7 @@
 // The areas of a telegram, read from its bytes (document 01, Parameter area): the words of the parameter area, and the process words
 // behind them. Slave and master read here alike.
+#![tactic(auto)]
+
 ghost use Rattle.std.specs.Prelude.{◌≡◌, cond, ◌+◌, ◌-◌, ◌≤◌, length};
 ghost use Rattle.words.specs.Words.{word_at};
 ghost use Rattle.area.specs.Read.{value_at, area_at, process_at, empty_area};
@@ -7,7 +9,7 @@ ghost use Rattle.area.specs.Read.{value_at, area_at, process_at, empty_area};
 use words::{Words, join, join_double};
 
 // The words of a parameter area: PKE, IND, and the value over the words that are left.
-#[derive(Drop)]
+#[derive(Clone, Copy)]
 pub struct Area {
     pub pke: u16,
     pub ind: u16,

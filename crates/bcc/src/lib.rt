@@ -1,4 +1,6 @@
 // The check character BCC (document 01, Frame): the XOR of bytes.
+#![tactic(auto)]
+
 ghost use Rattle.std.specs.Prelude.{◌≡◌, ◌+◌, ◌≤◌, length};
 ghost use Rattle.words.specs.Words.{byte_at, word_of, double_of};
 ghost use Rattle.bcc.specs.Bcc.{xor_all};

@@ -1,11 +1,13 @@
 // Broadcasts (document 01, Slave): when a broadcast is void, and what it makes of the control words.
+#![tactic(auto)]
+
 ghost use Rattle.std.specs.Prelude.{◌≡◌};
 ghost use Rattle.broadcast.specs.Broadcast.{is_void, merge_of, word_merged, control_after};
 
 use words::Words;
 
 // The parameter area of a broadcast: word 1 selects process words, words 2 and 3 are their masks, and a fourth must be 0.
-#[derive(Drop)]
+#[derive(Clone, Copy)]
 pub struct Command {
     pub selector: u16,
     pub mask1: u16,

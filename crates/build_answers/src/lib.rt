@@ -1,10 +1,12 @@
 // The answers of a master's builds (document 01, Answer numbers 30 to 32 and 0): an enum, one case for each cause, and the document's
 // number of each.
+#![tactic(auto)]
+
 ghost use Rattle.std.specs.Prelude.{◌≡◌};
 ghost use Rattle.build_answers.specs.BuildNumbers.{build_number, built_number};
 
 // Why no telegram is built: 30, 31, 32.
-#[derive(Drop)]
+#[derive(Clone, Copy)]
 pub enum BuildFault {
     BadSetup,
     NotExpressible,
@@ -12,7 +14,7 @@ pub enum BuildFault {
 }
 
 // The answer of a build.
-#[derive(Drop)]
+#[derive(Clone, Copy)]
 pub enum BuildAnswer {
     Done,
     Refused(BuildFault),

@@ -1,4 +1,6 @@
 // Whether a parameter area is the reply to a task, and what it holds (document 01, Reply reading, 33).
+#![tactic(auto)]
+
 ghost use Rattle.std.specs.Prelude.{◌≡◌, not, ◌&&◌, ◌||◌, ◌≤◌, eqb, ltb};
 ghost use Rattle.task.specs.Task.{is_double_id};
 ghost use Rattle.content.specs.Content.{in_row, known_id, all_zero, bad_reply, reply_content};
@@ -8,7 +10,7 @@ use read_answers::Content;
 use task::Act;
 
 // What a reply answers: the task, and the number and the index that it repeats.
-#[derive(Drop)]
+#[derive(Clone, Copy)]
 pub struct Question {
     pub id: u8,
     pub number: u16,

@@ -1,4 +1,6 @@
 // The control words (document 01, Slave): what a normal telegram and a broadcast make of them.
+#![tactic(auto)]
+
 ghost use Rattle.std.specs.Prelude.{◌≡◌};
 ghost use Rattle.control.specs.Control.{control_taken, command_at, commanded_of};
 
@@ -21,7 +23,7 @@ pub fn take_control(setup: Setup, n: usize, control: Words, received: &[u8]) -> 
 }
 
 // What a broadcast comes to: it is void, or it makes new control words.
-#[derive(Drop)]
+#[derive(Clone, Copy)]
 pub enum Commanded {
     Void,
     Changed(Words),

@@ -1,5 +1,7 @@
 // What a task asks of a parameter (document 01, Parameter area): the reply, and the element that is read or written. No value is touched
 // here.
+#![tactic(auto)]
+
 ghost use Rattle.std.specs.Prelude.{◌≡◌, ◌≤◌};
 ghost use Rattle.entry.specs.Fields.{count_of};
 ghost use Rattle.task.specs.Task.{read_reply, carried};
@@ -13,7 +15,7 @@ use task::{Act, Task, Width};
 use verdict::Verdict;
 
 // What is to be done: the reply's area as it stands, or with the element's value read into it, or with its value written to the element.
-#[derive(Drop)]
+#[derive(Clone, Copy)]
 pub enum Deed {
     Reply { area: Area },
     Fetch { area: Area, element: u8 },

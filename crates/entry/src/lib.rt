@@ -1,8 +1,10 @@
 // One record of a parameter table by itself: its fields and its places (document 01, Parameter table).
+#![tactic(auto)]
+
 ghost use Rattle.std.specs.Prelude.{◌≡◌};
 ghost use Rattle.entry.specs.Fields.{entry_of, count_of};
 
-#[derive(Drop)]
+#[derive(Clone, Copy)]
 pub struct Entry {
     pub number: u16,
     pub double: bool,

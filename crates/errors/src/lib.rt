@@ -1,9 +1,11 @@
 // The errors of a task on a parameter (document 01, Parameter area), and the document's number of each.
+#![tactic(auto)]
+
 ghost use Rattle.std.specs.Prelude.{◌≡◌};
 ghost use Rattle.errors.specs.ErrorNumbers.{error_number};
 
 // Why a task on a parameter fails, one case for each error number.
-#[derive(Drop)]
+#[derive(Clone, Copy)]
 pub enum ParameterError {
     NoParameter,
     NotWritable,

@@ -1,9 +1,11 @@
 // The figure that a panel shows of a process word (document 02, W-204).
+#![tactic(auto)]
+
 ghost use Rattle.std.specs.Prelude.{◌≡◌, ◌≤◌};
 ghost use Rattle.figure.specs.Figures.{product_of, over16384, figure_of};
 
 // What a word is shown as.
-#[derive(Drop)]
+#[derive(Clone, Copy)]
 pub enum Unit {
     Hertz,
     Percent,
@@ -11,7 +13,7 @@ pub enum Unit {
 }
 
 // What is shown: a double, the word as it came, or no figure, since the reference is out of range (50).
-#[derive(Drop)]
+#[derive(Clone, Copy)]
 pub enum Figure {
     Hertz(f64),
     Percent(f64),

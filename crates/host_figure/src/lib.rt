@@ -1,4 +1,6 @@
 // A figure for a host: what a panel shows of a process word, in the document's numbers (document 02, W-204).
+#![tactic(auto)]
+
 ghost use Rattle.std.specs.Prelude.{◌≡◌};
 ghost use Rattle.figure.specs.Figures.{figure_of};
 ghost use Rattle.host_figure.specs.Host.{host_figure};
@@ -7,7 +9,7 @@ use figure::{Figure, Unit};
 
 // What a showing returns: the answer's number, the raw word, and the double. What is not shown is 0.
 #[repr(C)]
-#[derive(Drop)]
+#[derive(Clone, Copy)]
 pub struct HostFigure {
     pub number: u32,
     pub raw: u32,

@@ -1,4 +1,6 @@
 // Telegrams are built for a host: the answer in the document's numbers (document 01, Answer numbers 30 to 32).
+#![tactic(auto)]
+
 ghost use Rattle.std.specs.Prelude.{◌≡◌, [], ◌≤◌};
 ghost use Rattle.request.specs.declared.Request.TheVariants.{Task, Mirror, Broadcast};
 ghost use Rattle.master.specs.Build.{built_of};
@@ -10,7 +12,7 @@ use words::Words;
 
 // What a build returns: the answer's number and the telegram's length.
 #[repr(C)]
-#[derive(Drop)]
+#[derive(Clone, Copy)]
 pub struct HostBuilt {
     pub number: u32,
     pub length: u32,

@@ -1,4 +1,6 @@
 // A reply is read for a host: the answer in the document's numbers (document 01, Reply reading).
+#![tactic(auto)]
+
 ghost use Rattle.std.specs.Prelude.{◌≡◌};
 ghost use Rattle.request.specs.declared.Request.TheVariants.{Task};
 ghost use Rattle.reply.specs.Reply.{read_of};
@@ -12,7 +14,7 @@ use words::Words;
 
 // What a reading returns: the answer's number, the reply ID, the value or error number, and the process words.
 #[repr(C)]
-#[derive(Drop)]
+#[derive(Clone, Copy)]
 pub struct HostReply {
     pub number: u32,
     pub id: u32,

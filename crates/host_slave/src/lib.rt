@@ -1,4 +1,6 @@
 // The slave call for a host: the answer in the document's numbers (document 01, Answer numbers 0 to 23; document 02, W-205, 25).
+#![tactic(auto)]
+
 ghost use Rattle.std.specs.Prelude.{◌≡◌, ◌/◌, ◌%◌};
 ghost use Rattle.opening.specs.Lent.{Unlisted, Listed, lent_list};
 ghost use Rattle.slave.specs.Slave.{call_of};
@@ -9,7 +11,7 @@ use words::Words;
 
 // What a call returns: the answer's number, the reply's length, and the control words afterwards.
 #[repr(C)]
-#[derive(Drop)]
+#[derive(Clone, Copy)]
 pub struct HostAnswer {
     pub number: u32,
     pub length: u32,
@@ -17,7 +19,7 @@ pub struct HostAnswer {
 }
 
 // What a call tells: number and length as one number of 64 bits, the length above, so that they cross together; and the control words.
-#[derive(Drop)]
+#[derive(Clone, Copy)]
 struct Told {
     both: u64,
     control: Words,

@@ -1,4 +1,6 @@
 // The limits of a record, and the rules that it can break by itself (document 01, Parameter table).
+#![tactic(auto)]
+
 ghost use Rattle.std.specs.Prelude.{◌≡◌};
 ghost use Rattle.limits.specs.Limits.{at_most, fits_in, is_within, entry_ok};
 

@@ -1,4 +1,6 @@
 // The listing of received bytes (document 01, Listing program).
+#![tactic(auto)]
+
 ghost use Rattle.std.specs.Prelude.{◌≡◌, [], ◌∷◌, ◌≤◌, length};
 ghost use Rattle.text.specs.Digits.{ascii, digits};
 ghost use Rattle.store.specs.Placed.{put_out, put_all, joined};

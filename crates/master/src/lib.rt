@@ -1,4 +1,6 @@
 // What a master builds (document 01, Answer numbers 30 to 32): the telegrams of tasks, mirrors and broadcasts.
+#![tactic(auto)]
+
 ghost use Rattle.std.specs.Prelude.{◌≡◌, true, [], ◌+◌, ◌≤◌, length};
 ghost use Rattle.net.specs.Telegram.{telegram_of};
 ghost use Rattle.setup.specs.SetupRules.{setup_ok};
@@ -12,7 +14,7 @@ use setup::Setup;
 use words::Words;
 
 // What a build returns: its answer, and the telegram's length, 0 in a refusal.
-#[derive(Drop)]
+#[derive(Clone, Copy)]
 pub struct Built {
     pub answer: BuildAnswer,
     pub length: usize,

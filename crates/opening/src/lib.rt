@@ -1,6 +1,8 @@
 // The opening check: set-up, table, values, list and reply buffer (document 01, answers 20 to 23; document 02, W-205, answer 25). One pass
 // over table, values and list finds whether all is in order. Only where it is not, a pass without the list tells 25 from the others, and one
 // over the table alone 22 from 21.
+#![tactic(auto)]
+
 ghost use Rattle.std.specs.Prelude.{◌≡◌, true, ◌&&◌, cond, ◌+◌, ◌*◌, ◌/◌, ◌≤◌, eqb, leb, length};
 ghost use Rattle.words.specs.Words.{double_at};
 ghost use Rattle.entry.specs.Fields.{entry_of, count_of};
@@ -16,7 +18,7 @@ use setup::{Setup, setup_ok};
 use slave_answers::OpeningFault;
 use table::{Record, record_of};
 
-#[derive(Drop)]
+#[derive(Clone, Copy)]
 pub enum Opening {
     Passed,
     Closed(OpeningFault),
@@ -89,7 +91,7 @@ fn run_holds(e: Entry, values: &[u32], n: usize, place: usize) -> bool
 }
 
 // What a record and its values come to: how many places it takes, and whether both are in order.
-#[derive(Drop)]
+#[derive(Clone, Copy)]
 struct Run {
     places: usize,
     fine: bool,

@@ -1,4 +1,6 @@
 // Page, base and full number (document 01, Parameter area): the page's nibble in IND, both ways.
+#![tactic(auto)]
+
 ghost use Rattle.std.specs.Prelude.{◌≡◌};
 ghost use Rattle.page.specs.Page.{page_of, nibble_of, full_number};
 

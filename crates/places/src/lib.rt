@@ -1,4 +1,6 @@
 // The list of first places that a host may lend to the slave (document 02, W-205), filled from a table.
+#![tactic(auto)]
+
 ghost use Rattle.std.specs.Prelude.{◌≡◌, length};
 ghost use Rattle.opening.specs.Answers.{opened_number};
 ghost use Rattle.places.specs.Fill.{filling_of, filled_by};

@@ -1,5 +1,7 @@
 // The answers of a master's reading (document 01, Answer numbers 30, 31, 10 to 17, 33 and 0): an enum for each, one case for each cause,
 // the document's number of each, and what a reply that is read holds.
+#![tactic(auto)]
+
 ghost use Rattle.std.specs.Prelude.{◌≡◌};
 ghost use Rattle.read_answers.specs.ReadNumbers.{read_fault_number, content_id, content_value};
 
@@ -7,7 +9,7 @@ use address::Fault;
 
 // What a reply holds: nothing (task 0, or no parameter area), a value with its reply ID, an error number (ID 7), or the
 // word that the master has no right (ID 8).
-#[derive(Drop)]
+#[derive(Clone, Copy)]
 pub enum Content {
     Empty,
     Value { id: u8, value: u32 },
@@ -16,7 +18,7 @@ pub enum Content {
 }
 
 // Why a reply is not read: 30, 31, 10 to 17, 33.
-#[derive(Drop)]
+#[derive(Clone, Copy)]
 pub enum ReadFault {
     UnfitSetup,
     NotAsked,
@@ -27,7 +29,7 @@ pub enum ReadFault {
 }
 
 // The answer of a reading.
-#[derive(Drop)]
+#[derive(Clone, Copy)]
 pub enum ReadAnswer {
     Read(Content),
     Unread(ReadFault),

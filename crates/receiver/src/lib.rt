@@ -1,18 +1,20 @@
 // The receiver (document 02, W-201): it is fed as the UART delivers, bytes and pauses, and hands out telegrams at the start of the
 // lent page.
+#![tactic(auto)]
+
 ghost use Rattle.std.specs.Prelude.{◌≡◌, List, [], ◌∷◌, ℕ, ◌+◌, ◌-◌, ◌≤◌, ◌<◌, length};
 ghost use Rattle.receiver.specs.Receive.{run_from, call_from, received_of, Leaves, Due};
 
 // 0 disarmed, 1 armed, 1 + k inside a telegram of which k bytes (1 to 255) stand in the page; any other number is disarmed.
 #[repr(C)]
-#[derive(Drop)]
+#[derive(Clone, Copy)]
 pub struct Receiver {
     pub state: u32,
 }
 
 // How many items were taken, the length of the telegram handed out, 0 where there is none, and the receiver from now on.
 #[repr(C)]
-#[derive(Drop)]
+#[derive(Clone, Copy)]
 pub struct Received {
     pub taken: u64,
     pub length: u32,
@@ -20,7 +22,7 @@ pub struct Received {
 }
 
 // A place among the items, and the state there.
-#[derive(Drop)]
+#[derive(Clone, Copy)]
 struct Passed {
     place: usize,
     state: u32,

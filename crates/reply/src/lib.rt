@@ -1,4 +1,6 @@
 // How a master reads the reply to a task (document 01, Answer numbers, "Reply reading").
+#![tactic(auto)]
+
 ghost use Rattle.std.specs.Prelude.{◌≡◌};
 ghost use Rattle.reply.specs.Reply.{unread_of, read_normal, read_task, read_of, zero_words};
 
@@ -10,7 +12,7 @@ use setup::Setup;
 use words::Words;
 
 // What a reading returns: its answer, and the reply's process words, all 0 in a refusal.
-#[derive(Drop)]
+#[derive(Clone, Copy)]
 pub struct Reading {
     pub answer: ReadAnswer,
     pub process: Words,

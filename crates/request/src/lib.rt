@@ -1,4 +1,6 @@
 // What a master can ask (document 01, Answer number 31): tasks, mirrors and broadcasts.
+#![tactic(auto)]
+
 ghost use Rattle.std.specs.Prelude.{◌≡◌, not, ◌&&◌};
 ghost use Rattle.request.specs.Request.{unused_zero, value_fits, task_fits, task_askable, command_of, expressible};
 ghost use Rattle.task.specs.declared.Act.TheVariants.{Change};
@@ -10,7 +12,7 @@ use task::{Act, Width};
 use words::Words;
 
 // What a master asks. The net bytes of a mirror stand beside it.
-#[derive(Drop)]
+#[derive(Clone, Copy)]
 pub enum Request {
     Task {
         id: u8,

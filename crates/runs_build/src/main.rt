@@ -1,4 +1,6 @@
 // Builds of requests, a line for each: document 01's number, the length, the telegram's bytes.
+#![tactic(auto)]
+
 ghost use Rattle.std.specs.Prelude.{◌≤◌};
 
 use master::Built;

@@ -1,6 +1,8 @@
 // Listings of known telegrams (document 01, Listing program, and the telegrams to run): of those of standard input, whose lines have
 // a telegram's bytes in hexadecimal and behind # what it is, then of long ones, then into short and long buffers. Each line is
 // written as it is, and a telegram's listing below it.
+#![tactic(auto)]
+
 ghost use Rattle.std.specs.Prelude.{◌≤◌, length};
 
 // The example of document 01.

@@ -1,6 +1,8 @@
 // Runs the opening check and writes a line for each group of cases: a label, and the document's number of each case, 0 where nothing is
 // refused. Lists of first places are lent, filled and lent, and tables are gone through by the view.
 // Kinds of a parameter: 0 word, 2 signed word, 4 double, 6 signed double; 1 more where it is writable.
+#![tactic(auto)]
+
 use opening::{Opening, open};
 use setup::Setup;
 

@@ -1,6 +1,8 @@
 // Reads the replies of standard input, whose first lines say how it is read. Writes each line as it is, and below one with a reply
 // what the reading gave: document 01's number, reply ID, value or error number, process words. Then readings as the reply to a mirror
 // and to a broadcast: the number and the process words.
+#![tactic(auto)]
+
 ghost use Rattle.std.specs.Prelude.{◌≤◌, length};
 
 use host_reply::HostReply;

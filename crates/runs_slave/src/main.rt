@@ -1,5 +1,7 @@
 // Runs the slave call on the telegrams of standard input, whose first lines say how it is read. Writes each line as it is, and below
 // one with a telegram what the call gave: document 01's answer number, the reply's length and bytes, the control words and the values.
+#![tactic(auto)]
+
 ghost use Rattle.std.specs.Prelude.{◌≤◌, length};
 
 use host_slave::HostAnswer;
@@ -37,7 +39,7 @@ const STATUS: Words = Words {
 };
 
 // The values and the control words that a call on the bench leaves.
-#[derive(Drop)]
+#[derive(Clone, Copy)]
 struct Left {
     values: [u32; 11],
     control: Words,

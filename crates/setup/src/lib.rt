@@ -1,9 +1,11 @@
 // The set-up of a slave or a master: its node, its parameter words and its process words (document 01, answers 20 and 30).
+#![tactic(auto)]
+
 ghost use Rattle.std.specs.Prelude.{◌≡◌};
 ghost use Rattle.setup.specs.SetupRules.{setup_ok, area_count, other_length};
 
 #[repr(C)]
-#[derive(Drop)]
+#[derive(Clone, Copy)]
 pub struct Setup {
     pub node: u8,
     pub pkw: u8,

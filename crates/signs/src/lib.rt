@@ -1,4 +1,6 @@
 // A word or a double word as a signed number, two's complement (document 01, Parameter table; document 02, W-204).
+#![tactic(auto)]
+
 ghost use Rattle.std.specs.Prelude.{◌≡◌};
 ghost use Rattle.signs.specs.Signs.{signed_of};
 

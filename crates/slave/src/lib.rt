@@ -1,4 +1,6 @@
 // The slave (document 01, Slave): one call takes a received page, runs its task on the lent values, and answers.
+#![tactic(auto)]
+
 ghost use Rattle.std.specs.Prelude.{◌≡◌, true, List, ℕ, ◌+◌, ◌-◌, ◌*◌, ◌≤◌, length};
 ghost use Rattle.words.specs.declared.Words.{Words};
 ghost use Rattle.table.specs.Records.{entry_at, counts_of, entries, first_place, places_of};
@@ -23,7 +25,7 @@ use table::Found;
 use words::Words;
 
 // What a call returns: its answer, the reply's length, and the control words afterwards.
-#[derive(Drop)]
+#[derive(Clone, Copy)]
 pub struct Served {
     pub answer: Answer,
     pub length: usize,
@@ -69,7 +71,7 @@ fn first_place(t: &[u8], k: usize, count: usize, places: &[u16], listed: bool) -
 }
 
 // What a task asks of the values: the deed, and the first value place of the record that it means; 0 where it means none.
-#[derive(Drop)]
+#[derive(Clone, Copy)]
 pub struct Plan {
     pub deed: Deed,
     pub first: usize,

@@ -1,5 +1,7 @@
 // The answers of the slave call and of its opening check (document 01, Answer numbers): an enum for each, one case for each cause, and
 // the document's number of each.
+#![tactic(auto)]
+
 ghost use Rattle.std.specs.Prelude.{◌≡◌};
 ghost use Rattle.slave_answers.specs.SlaveNumbers.{opening_number, refusal_number, answer_number};
 
@@ -8,7 +10,7 @@ use address::Fault;
 // ---- the opening check: 20 to 23 and 25
 
 // Why the opening check refuses.
-#[derive(Drop)]
+#[derive(Clone, Copy)]
 pub enum OpeningFault {
     BadSetup,
     BadTable,
@@ -33,7 +35,7 @@ pub fn number_opening(fault: OpeningFault) -> u32
 // ---- the slave: 20 to 23 and 25, 10 to 18, 0, 1, 2
 
 // Why a call is refused: by the opening check (20 to 23, 25), by the frame or the address (10 to 15), or 16, 17, 18.
-#[derive(Drop)]
+#[derive(Clone, Copy)]
 pub enum Refusal {
     AtOpening(OpeningFault),
     InTelegram(Fault),
@@ -43,7 +45,7 @@ pub enum Refusal {
 }
 
 // The answer of a call.
-#[derive(Drop)]
+#[derive(Clone, Copy)]
 pub enum Answer {
     Replied,
     Mirrored,

@@ -1,10 +1,12 @@
 // One item of the receiver (document 02, W-201): what a byte or a pause does to the state and to the lent page.
+#![tactic(auto)]
+
 ghost use Rattle.std.specs.Prelude.{◌≡◌, ◌<◌, length};
 ghost use Rattle.rows.specs.Rows.{first_of};
 ghost use Rattle.step.specs.Step.{settled_of, first_rows, opened, lge_rows, promised, step_of};
 
 // What an item does: the next state, and the length of the telegram that it completed, else 0.
-#[derive(Drop)]
+#[derive(Clone, Copy)]
 pub struct Move {
     pub state: u32,
     pub length: u32,

@@ -1,4 +1,6 @@
 // A lent parameter table, 12 bytes a record (document 01, Parameter table): a record read, and the search.
+#![tactic(auto)]
+
 ghost use Rattle.std.specs.Prelude.{◌≡◌, ◌+◌, ◌*◌, ◌≤◌, eqb, length};
 ghost use Rattle.words.specs.Words.{double_at};
 ghost use Rattle.table.specs.Records.{record_of, entry_at, find_in};
@@ -6,7 +8,7 @@ ghost use Rattle.table.specs.Records.{record_of, entry_at, find_in};
 use words::{join, join_double};
 
 // The three double words of a record.
-#[derive(Drop)]
+#[derive(Clone, Copy)]
 pub struct Record {
     pub head: u32,
     pub minimum: u32,
@@ -14,7 +16,7 @@ pub struct Record {
 }
 
 // What a search by number finds: the record at a place, or nothing.
-#[derive(Drop)]
+#[derive(Clone, Copy)]
 pub enum Found {
     At(usize),
     Nothing,

@@ -1,5 +1,7 @@
 // A parameter table and its values, looked at one rule after the other (document 01, Parameter table; the order is ours): which rule is
 // broken first, by which record, and by which value. The opening check of a slave call says only 21 or 22.
+#![tactic(auto)]
+
 ghost use Rattle.std.specs.Prelude.{◌≡◌, not, ◌&&◌, ◌+◌, ◌*◌, ◌≤◌, length};
 ghost use Rattle.limits.specs.Limits.{fits_in};
 ghost use Rattle.table.specs.Records.{entry_at, entries_from, counts_of};
@@ -13,7 +15,7 @@ use slave_answers::{OpeningFault, number_opening};
 use table::record_of;
 
 // The rules, in the order in which they are looked at. Kept: none is broken.
-#[derive(Drop)]
+#[derive(Clone, Copy)]
 pub enum Rule {
     Kept,
     PartRecord,
@@ -31,7 +33,7 @@ pub enum Rule {
 
 // What a check tells: the answer's number (0, 21 or 22), the rule that is broken first, the record at fault, and of a value its place.
 #[repr(C)]
-#[derive(Drop)]
+#[derive(Clone, Copy)]
 pub struct TableCheck {
     pub number: u32,
     pub rule: u32,

@@ -1,11 +1,13 @@
 // Tasks (document 01, Parameter area): what a task ID asks.
+#![tactic(auto)]
+
 ghost use Rattle.std.specs.Prelude.{◌≡◌, cond};
 ghost use Rattle.task.specs.Task.{task_row, task_of};
 ghost use Rattle.task.specs.declared.Act.TheVariants.{Count, Refuse};
 ghost use Rattle.task.specs.declared.Width.TheVariants.{Word, Double};
 
 // What is to be done. Refuse is for the task IDs that error 106 answers.
-#[derive(Drop)]
+#[derive(Clone, Copy)]
 pub enum Act {
     Nothing,
     Read,
@@ -15,7 +17,7 @@ pub enum Act {
 }
 
 // The width of the value that the task carries.
-#[derive(Drop)]
+#[derive(Clone, Copy)]
 pub enum Width {
     Either,
     Word,
@@ -24,7 +26,7 @@ pub enum Width {
 
 // What a task ID asks: the act, the width, whether the index names an element, and the reply ID. A read of a double replies
 // with the next ID.
-#[derive(Drop)]
+#[derive(Clone, Copy)]
 pub struct Task {
     pub act: Act,
     pub width: Width,

@@ -1,4 +1,6 @@
 // telegram-list (document 01, Listing program): lists the first 300 bytes of standard input.
+#![tactic(auto)]
+
 fn main() {
     let mut input = [0u8; 300];
     let n = io::read_full(0, &mut input);

@@ -1,4 +1,6 @@
 // Numbers in decimal without leading zeros, into a lent buffer (document 01, Listing program).
+#![tactic(auto)]
+
 ghost use Rattle.std.specs.Prelude.{◌≡◌, ◌+◌, ◌≤◌, length};
 ghost use Rattle.std.proofs.lemmas.List.Edits.{sets};
 ghost use Rattle.text.specs.Digits.{digits};

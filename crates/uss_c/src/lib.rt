@@ -1,5 +1,7 @@
 // The calls for C (include/uss.h): structs by value, slices as pointer and count. Each hands on to the crate that does the work and
 // promises what that one promises.
+#![tactic(auto)]
+
 ghost use Rattle.std.specs.Prelude.{◌≡◌, List, [], ◌∷◌, ℕ, length};
 ghost use Rattle.bcc.specs.Bcc.{xor_all};
 ghost use Rattle.receiver.specs.Receive.{received_of, Leaves};

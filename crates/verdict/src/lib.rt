@@ -1,5 +1,7 @@
 // The verdict on a task (document 01, Parameter area): the errors of a task on a parameter, in the document's order, and the element that
 // it means.
+#![tactic(auto)]
+
 ghost use Rattle.std.specs.Prelude.{◌≡◌, false};
 ghost use Rattle.task.specs.Task.{task_row};
 ghost use Rattle.task.specs.declared.Act.TheVariants.{Read, Change};
@@ -10,7 +12,7 @@ use entry::Entry;
 use errors::ParameterError;
 use task::{Act, Task, Width};
 
-#[derive(Drop)]
+#[derive(Clone, Copy)]
 pub enum Verdict {
     Granted,
     Denied(ParameterError),

@@ -1,5 +1,7 @@
 // A view of a lent table that steps from record to record and shows each record's fields (document 02, W-205). First the cursor by value
 // beside the table; then the thin struct that holds both.
+#![tactic(auto)]
+
 ghost use Rattle.std.specs.Prelude.{◌≡◌, ◌+◌, ◌*◌, ◌≤◌, length};
 ghost use Rattle.table.specs.Records.{entry_at};
 ghost use Rattle.view.specs.View.{flag_of, shown_of, nothing, open_of, is_there, show_of, step_of, start_in, shown_in, stepped_in};
@@ -11,7 +13,7 @@ use table_check::is_table;
 
 // Number 0 or 21, and the record that the view stands at.
 #[repr(C)]
-#[derive(Drop)]
+#[derive(Clone, Copy)]
 pub struct Cursor {
     pub number: u32,
     pub at: u32,
@@ -19,7 +21,7 @@ pub struct Cursor {
 
 // The fields of a record; all 0 where there is none.
 #[repr(C)]
-#[derive(Drop)]
+#[derive(Clone, Copy)]
 pub struct Shown {
     pub there: u32,
     pub parameter: u32,
@@ -135,7 +137,7 @@ pub fn next(table: &[u8], cursor: Cursor) -> Cursor
 // ---- the struct that holds the table
 
 // A table and the cursor in it.
-#[derive(Drop)]
+#[derive(Clone, Copy)]
 pub struct View<'a> {
     pub table: &'a [u8],
     pub cursor: Cursor,
