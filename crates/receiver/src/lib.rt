@@ -57,7 +57,7 @@ fn count_due(state: u32, page: &[u8]) -> usize
 fn skip(items: &[u16], from: usize) -> usize
     requires { from ≤ length items.now }
     ensures lower_bound { (from ≤ result) × (result ≤ length items.now) }
-    ensures by_index { (page : List ℕ) → call_from from 0 items.now page ≡ call_from result 0 items.now page }
+    ensures same_call { (page : List ℕ) → call_from from 0 items.now page ≡ call_from result 0 items.now page }
 {
     let mut i = from;
     while i < items.len() {
@@ -267,8 +267,8 @@ pub fn receive_bytes(receiver: Receiver, bytes: &[u8], page: &mut [u8]) -> Recei
 
 // One pause, as a timer has it: it arms, from any state, and no page is looked at.
 pub fn pause(receiver: Receiver) -> Receiver
-    ensures by_index { (page : List ℕ) → result ≡ (received_of receiver.state (256 ∷ []) page).received.receiver }
-    ensures by_index_2 { (page : List ℕ) → (received_of receiver.state (256 ∷ []) page).page ≡ page }
+    ensures paused { (page : List ℕ) → result ≡ (received_of receiver.state (256 ∷ []) page).received.receiver }
+    ensures page_stays { (page : List ℕ) → (received_of receiver.state (256 ∷ []) page).page ≡ page }
 {
     Receiver { state: 1 }
 }

@@ -49,8 +49,8 @@ pub extern "C" fn uss_receive_bytes(receiver: Receiver, bytes: &[u8], page: &mut
 
 #[unsafe(no_mangle)]
 pub extern "C" fn uss_pause(receiver: Receiver) -> Receiver
-    ensures by_index { (page : List ℕ) → result ≡ (received_of receiver.state (256 ∷ []) page).received.receiver }
-    ensures by_index_2 { (page : List ℕ) → (received_of receiver.state (256 ∷ []) page).page ≡ page }
+    ensures paused { (page : List ℕ) → result ≡ (received_of receiver.state (256 ∷ []) page).received.receiver }
+    ensures page_stays { (page : List ℕ) → (received_of receiver.state (256 ∷ []) page).page ≡ page }
 {
     receiver::pause(receiver)
 }
