@@ -1,5 +1,5 @@
-// The calls for C (include/uss.h): structs by value, slices as pointer and count. Each hands on to the crate that does the work and
-// promises what that one promises.
+// The calls for C (include/uss.h), as functions that Rattle can call: each hands on to the crate that does the work and promises what
+// that one promises. Crate uss_c_c exports them.
 #![tactic(auto)]
 
 ghost use Rattle.std.specs.Prelude.{◌≡◌, List, [], ◌∷◌, ℕ, length};
@@ -33,30 +33,26 @@ use table_check::TableCheck;
 use view::{Cursor, Shown};
 use words::Words;
 
-#[unsafe(no_mangle)]
-pub extern "C" fn uss_receive(receiver: Receiver, items: &[u16], page: &mut [u8]) -> Received
+pub fn uss_receive(receiver: Receiver, items: &[u16], page: &mut [u8]) -> Received
     ensures { Leaves (received_of receiver.state items.now page.old) result page.new }
 {
     receiver::receive(receiver, items, page)
 }
 
-#[unsafe(no_mangle)]
-pub extern "C" fn uss_receive_bytes(receiver: Receiver, bytes: &[u8], page: &mut [u8]) -> Received
+pub fn uss_receive_bytes(receiver: Receiver, bytes: &[u8], page: &mut [u8]) -> Received
     ensures { Leaves (received_of receiver.state bytes.now page.old) result page.new }
 {
     receiver::receive_bytes(receiver, bytes, page)
 }
 
-#[unsafe(no_mangle)]
-pub extern "C" fn uss_pause(receiver: Receiver) -> Receiver
+pub fn uss_pause(receiver: Receiver) -> Receiver
     ensures paused { (page : List ℕ) → result ≡ (received_of receiver.state (256 ∷ []) page).received.receiver }
     ensures page_stays { (page : List ℕ) → (received_of receiver.state (256 ∷ []) page).page ≡ page }
 {
     receiver::pause(receiver)
 }
 
-#[unsafe(no_mangle)]
-pub extern "C" fn uss_slave(
+pub fn uss_slave(
     setup: Setup,
     table: &[u8],
     values: &mut [u32],
@@ -70,8 +66,7 @@ pub extern "C" fn uss_slave(
     host_slave::serve(setup, table, values, control, status, received, reply)
 }
 
-#[unsafe(no_mangle)]
-pub extern "C" fn uss_slave_listed(
+pub fn uss_slave_listed(
     setup: Setup,
     table: &[u8],
     values: &mut [u32],
@@ -88,8 +83,7 @@ pub extern "C" fn uss_slave_listed(
     )
 }
 
-#[unsafe(no_mangle)]
-pub extern "C" fn uss_build_task(
+pub fn uss_build_task(
     setup: Setup,
     task: u8,
     parameter: u16,
@@ -103,15 +97,13 @@ pub extern "C" fn uss_build_task(
     host_master::build_task(setup, task, parameter, index, value, process, out)
 }
 
-#[unsafe(no_mangle)]
-pub extern "C" fn uss_build_mirror(setup: Setup, net: &[u8], out: &mut [u8]) -> HostBuilt
+pub fn uss_build_mirror(setup: Setup, net: &[u8], out: &mut [u8]) -> HostBuilt
     ensures { BuildLeaves (built_of setup Mirror net.now out.old) result out.new }
 {
     host_master::build_mirror(setup, net, out)
 }
 
-#[unsafe(no_mangle)]
-pub extern "C" fn uss_build_broadcast(
+pub fn uss_build_broadcast(
     setup: Setup,
     selector: u16,
     mask1: u16,
@@ -124,8 +116,7 @@ pub extern "C" fn uss_build_broadcast(
     host_master::build_broadcast(setup, selector, mask1, mask2, process, out)
 }
 
-#[unsafe(no_mangle)]
-pub extern "C" fn uss_read_reply(
+pub fn uss_read_reply(
     setup: Setup,
     task: u8,
     parameter: u16,
@@ -139,73 +130,63 @@ pub extern "C" fn uss_read_reply(
     host_reply::read_reply(setup, task, parameter, index, value, process, received)
 }
 
-#[unsafe(no_mangle)]
-pub extern "C" fn uss_list(received: &[u8], out: &mut [u8]) -> u32
+pub fn uss_list(received: &[u8], out: &mut [u8]) -> u32
     ensures value { result ≡ (listed_of received.now out.old).place }
     ensures out_after { out.new ≡ (listed_of received.now out.old).bytes }
 {
     listing::list(received, out)
 }
 
-#[unsafe(no_mangle)]
-pub extern "C" fn uss_bcc(bytes: &[u8]) -> u8
+pub fn uss_bcc(bytes: &[u8]) -> u8
     ensures { result ≡ xor_all bytes.now }
 {
     bcc::bcc(bytes)
 }
 
-#[unsafe(no_mangle)]
-pub extern "C" fn uss_check_table(table: &[u8], values: &[u32]) -> TableCheck
+pub fn uss_check_table(table: &[u8], values: &[u32]) -> TableCheck
     ensures { result ≡ table_check_of table.now values.now }
 {
     table_check::check_table(table, values)
 }
 
-#[unsafe(no_mangle)]
-pub extern "C" fn uss_fill_places(table: &[u8], places: &mut [u16]) -> u32
+pub fn uss_fill_places(table: &[u8], places: &mut [u16]) -> u32
     ensures value { result ≡ opened_number (filling_of table.now (length places.old)) }
     ensures places_after { places.new ≡ filled_by (filling_of table.now (length places.old)) table.now places.old }
 {
     places::fill(table, places)
 }
 
-#[unsafe(no_mangle)]
-pub extern "C" fn uss_view_open(table: &[u8]) -> Cursor
+pub fn uss_view_open(table: &[u8]) -> Cursor
     ensures { result ≡ open_of table.now }
 {
     view::first(table)
 }
 
-#[unsafe(no_mangle)]
-pub extern "C" fn uss_view_show(table: &[u8], view: Cursor) -> Shown
+pub fn uss_view_show(table: &[u8], view: Cursor) -> Shown
     ensures { result ≡ show_of table.now view }
 {
     view::look(table, view)
 }
 
-#[unsafe(no_mangle)]
-pub extern "C" fn uss_view_step(table: &[u8], view: Cursor) -> Cursor
+pub fn uss_view_step(table: &[u8], view: Cursor) -> Cursor
     ensures { result ≡ step_of table.now view }
 {
     view::next(table, view)
 }
 
-#[unsafe(no_mangle)]
-pub extern "C" fn uss_show_hertz(word: u16, reference: u32) -> HostFigure
+pub fn uss_show_hertz(word: u16, reference: u32) -> HostFigure
     ensures { result ≡ host_figure (figure_of Hertz word reference) }
 {
     host_figure::show(Unit::Hertz, word, reference)
 }
 
-#[unsafe(no_mangle)]
-pub extern "C" fn uss_show_percent(word: u16) -> HostFigure
+pub fn uss_show_percent(word: u16) -> HostFigure
     ensures { (reference : ℕ) → result ≡ host_figure (figure_of Percent word reference) }
 {
     host_figure::show(Unit::Percent, word, 0)
 }
 
-#[unsafe(no_mangle)]
-pub extern "C" fn uss_show_raw(word: u16) -> HostFigure
+pub fn uss_show_raw(word: u16) -> HostFigure
     ensures { (reference : ℕ) → result ≡ host_figure (figure_of Raw word reference) }
 {
     host_figure::show(Unit::Raw, word, 0)
