@@ -17,6 +17,7 @@ pub struct Entry {
 }
 
 // The record of its first 32 bits and its limits.
+#[tactic(auto, unfolding(crate::specs::Fields::entry_of))]
 pub fn entry_of(head: u32, minimum: u32, maximum: u32) -> Entry
     ensures { result ≡ entry_of head minimum maximum }
 {
@@ -33,6 +34,7 @@ pub fn entry_of(head: u32, minimum: u32, maximum: u32) -> Entry
 }
 
 // The places that a record takes: its elements, or 1 where it is no array.
+#[tactic(auto, unfolding(crate::specs::Fields::count_of))]
 pub fn count_places(e: Entry) -> usize
     ensures { result ≡ count_of e }
 {
