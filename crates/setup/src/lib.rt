@@ -13,6 +13,7 @@ pub struct Setup {
 }
 
 // Whether a set-up may be used.
+#[tactic(auto, unfolding(crate::specs::SetupRules::setup_ok))]
 pub fn setup_ok(setup: Setup) -> bool
     ensures { result ≡ setup_ok setup }
 {
