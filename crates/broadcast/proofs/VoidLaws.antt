@@ -1,5 +1,5 @@
 -- What a broadcast that is not void has, and what it leaves. Assumes nothing.
---     not-void-commands    both areas, the first word selected, bit 10 in its mask and in the word, a selector of three bits
+--     not_void_commands    both areas, the first word selected, bit 10 in its mask and in the word, a selector of three bits
 --     runs_after           after it bit 10 of the first control word is 1
 use mathlib.Core.Path.{◌≡◌, refl, ap, ◌∙◌}
 use mathlib.Core.Bool.{true, false, not}

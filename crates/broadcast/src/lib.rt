@@ -16,6 +16,7 @@ pub struct Command {
 }
 
 // Whether a broadcast is void (18) for a set-up of pkw and pzd words, where `first` is its first process word.
+#[tactic(auto, unfolding(crate::specs::Broadcast::is_void))]
 pub fn is_void(command: Command, pkw: u8, pzd: u8, first: u16) -> bool
     ensures { result ≡ is_void command pkw pzd first }
 {
@@ -51,6 +52,7 @@ pub fn is_void(command: Command, pkw: u8, pzd: u8, first: u16) -> bool
 }
 
 // The masked bits of the word, and the rest of the old one.
+#[tactic(auto, unfolding(crate::specs::Broadcast::merge_of))]
 pub fn merge(old: u16, word: u16, mask: u16) -> u16
     ensures { result ≡ merge_of old word mask }
 {
@@ -68,6 +70,7 @@ fn merge_selected(selected: bool, old: u16, word: u16, mask: u16) -> u16
 }
 
 // The control words after a broadcast that is not void: selected words take the masked bits and keep the rest.
+#[tactic(auto, unfolding(crate::specs::Broadcast::control_after))]
 pub fn command_control(command: Command, control: Words, process: Words) -> Words
     ensures { result ≡ control_after command control process }
 {
