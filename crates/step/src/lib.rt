@@ -13,6 +13,7 @@ pub struct Move {
 }
 
 // The state that a number says: disarmed where it is none, or says more bytes than the page has.
+#[tactic(auto, unfolding(crate::specs::Step::settled_of))]
 pub fn settle(state: u32, room: usize) -> u32
     ensures { result ≡ settled_of state room }
 {
@@ -68,6 +69,7 @@ fn take_lge(item: u16, page: &mut [u8]) -> Move
 }
 
 // Takes one item: the cases in the order of the definition.
+#[tactic(auto, unfolding(crate::specs::Step::step_of))]
 pub fn step(state: u32, item: u16, page: &mut [u8]) -> Move
     ensures value { result ≡ (step_of state item page.old).move }
     ensures page_after { page.new ≡ (step_of state item page.old).page }
