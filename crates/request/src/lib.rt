@@ -31,6 +31,7 @@ pub enum Request {
 }
 
 // Whether the words past the first pzd are 0, from the last one back.
+#[tactic(auto, unfolding(crate::specs::Request::unused_zero))]
 fn leaves_zero(pzd: u8, w: Words) -> bool
     ensures { result ≡ unused_zero pzd w }
 {
@@ -59,6 +60,7 @@ fn leaves_zero(pzd: u8, w: Words) -> bool
 }
 
 // Whether a change of this width can carry the value in an area of pkw words.
+#[tactic(auto, unfolding(crate::specs::Request::value_fits))]
 fn fits_change(width: Width, pkw: u8, value: u32) -> bool
     ensures { result ≡ value_fits Change width pkw value }
 {
@@ -70,6 +72,7 @@ fn fits_change(width: Width, pkw: u8, value: u32) -> bool
 }
 
 // Whether an act of this width can carry the value in an area of pkw words.
+#[tactic(auto, unfolding(crate::specs::Request::value_fits))]
 fn fits_value(act: Act, width: Width, pkw: u8, value: u32) -> bool
     ensures { result ≡ value_fits act width pkw value }
 {
@@ -83,6 +86,7 @@ fn fits_value(act: Act, width: Width, pkw: u8, value: u32) -> bool
 }
 
 // Whether a task can be asked in an area of pkw words.
+#[tactic(auto, unfolding(crate::specs::Request::task_fits))]
 fn fits_task(pkw: u8, id: u8, number: u16, index: u8, value: u32) -> bool
     ensures { result ≡ task_fits pkw id number index value }
 {
@@ -137,6 +141,7 @@ fn can_command(setup: Setup, selector: u16, mask1: u16, mask2: u16, process: Wor
 }
 
 // Whether a request can be asked; net are the net bytes of a mirror.
+#[tactic(auto, unfolding(crate::specs::Request::expressible))]
 pub fn can_express(setup: Setup, request: Request, net: &[u8]) -> bool
     ensures { result ≡ expressible setup request net.now }
 {
