@@ -27,21 +27,21 @@ crates_below() {
     tac "$root/crates.txt" | awk -v wanted="$*" '
         function want(list,    names, n) { n = split(list, names, " "); for (; n > 0; n--) wants[names[n]] = 1 }
         BEGIN { want(wanted) }
-        { sub(/#.*/, ""); colon = index($0, ":"); name = substr($0, 1, colon - 1) }
+        { sub(/#.*/, ""); colon = index($0, ":"); name = substr($0, 1, colon - 1); sub(/ .*/, "", name) }
         colon && (name in wants) { print name; want(substr($0, colon + 1)) }' | tac
 }
 
 # changed NAME: whether the crate is not proved, or a file of it is newer than that; rt then looks at what the file has
 changed() {
     local stamp="$root/target/stamp/$1"
-    [ ! -f "$stamp" ] || [ -n "$(find "$root/crates/$1" -name must-fail -prune -o -type f -newer "$stamp" -print -quit)" ]
+    [ ! -f "$stamp" ] || [ -n "$(find "$root/crates/$1" \( -name must-fail -o -name out \) -prune -o -type f -newer "$stamp" -print -quit)" ]
 }
 
 # to_prove NAME..: how many of the crates, given lowest first, have changed or stand on one that has
 to_prove() {
     local name below count=0 open=' '
     for name; do
-        for below in $name $(sed -n "s/^$name://p" "$root/crates.txt"); do
+        for below in $name $(sed -n "s/^$name\( staticlib\)\?://p" "$root/crates.txt"); do
             if [ "${open#* "$below" }" != "$open" ] || { [ "$below" = "$name" ] && changed "$name"; }; then
                 open="$open$name "
                 count=$((count + 1))
@@ -64,7 +64,7 @@ prove() {
     local log="$1" total="$2"
     shift 2
     mkdir -p "$(dirname "$log")"
-    (cd "$root" && rt check "$@") < /dev/null 2>&1 | follow "$total" > "$log.part" || refuse "$log"
+    (cd "$root" && lib/prove crates "$@") < /dev/null 2>&1 | follow "$total" > "$log.part" || refuse "$log"
 }
 
 # follow TOTAL: reads what rt says, tells of each crate that was proved or refused, and prints what is to be kept

@@ -1,4 +1,4 @@
-//! Says where the archive is that the calls are in: in the folder `USS_LIB_DIR`, where that is set; else where `rt staticlib uss_c`
+//! Says where the archive is that the calls are in: in the folder `USS_LIB_DIR`, where that is set; else where `lib/prove archive`
 //! (x86-64) or `ports/build` (other chips) of this repository writes the one of the target.
 
 use std::env;
@@ -32,7 +32,7 @@ fn place(target: &str) -> (&'static str, String) {
     match PLACES.iter().find(|(name, _)| *name == target) {
         Some((_, folder)) => match folder.strip_prefix("ports/") {
             Some(port) => (folder, format!("ports/build {port}")),
-            None => (folder, "rt staticlib uss_c".to_string()),
+            None => (folder, "lib/prove archive".to_string()),
         },
         None => fail(&format!("there is no archive for {target}; set USS_LIB_DIR to the folder of a libuss_c.a that suits it")),
     }

@@ -1,7 +1,7 @@
 #!/usr/bin/env bash
 # What demo/run and telegram-list tell before they run (lib/proving.sh): where a tool is missing, what is to be proved and for how long,
-# each crate, where the prover's words are kept, and what happens where it refuses. On a house of four crates, with stand-ins for `rt`
-# and the C compiler, so that nothing is proved; tests/listing.sh has a first start with `rt` itself. Exits 1 on a difference.
+# each crate, where the prover's words are kept, and what happens where it refuses. On a house of four crates, with stand-ins for `rt`,
+# lib/prove and the C compiler, so that nothing is proved; tests/listing.sh has a first start with `rt` itself. Exits 1 on a difference.
 #     tests/first_run.sh
 set -euo pipefail
 root="$(cd "$(dirname "$(readlink -f "${BASH_SOURCE[0]}")")/.." && pwd)"
@@ -40,29 +40,29 @@ mkdir -p "$house/demo" "$house/target/stamp" "$room/stand-in"
 cp -R "$root/telegram-list" "$root/lib" "$house"
 cp "$root/demo/run" "$house/demo/run"
 echo 'the toolchain is kit-1' > "$house/README.md"
-printf '%s\n' '# lowest first' 'low:' 'mid: low' 'side:' 'above: mid' 'uss_c: mid side' 'telegram_list: io mid' > "$house/crates.txt"
-for crate in low mid side above uss_c telegram_list; do
+printf '%s\n' '# lowest first' 'low:' 'mid: low' 'side:' 'above: mid' 'uss_c_c staticlib: mid side' 'telegram_list: io mid' > "$house/crates.txt"
+for crate in low mid side above uss_c_c telegram_list; do
     mkdir -p "$house/crates/$crate/src" "$house/crates/$crate/must-fail"
     touch "$house/crates/$crate/src/lib.rt" "$house/crates/$crate/must-fail/slip.edit"
 done
-cat > "$room/stand-in/rt" <<'RT'
+printf '#!/bin/sh\ncat "${0%%/*}/version"\n' > "$room/stand-in/rt"
+cat > "$house/lib/prove" <<PROVE
 #!/bin/sh
-# says what the file "words" beside it has, with the status in "status"; builds a program that lists, and an archive
-case "$1" in
-version) cat "${0%/*}/version" ;;
-check)
-    mkdir -p target/bin target/rlib/low.rlib target/rlib/mid.rlib target/rlib/side.rlib
+# says what the file "words" of the stand-in has, with the status in "status"; builds a program that lists, and an archive
+case "\$1" in
+crates)
+    mkdir -p target/bin
     printf '#!/bin/sh\necho telegram listing 1\necho bytes 0 refused 10\n' > target/bin/telegram_list
     chmod +x target/bin/telegram_list
-    cat "${0%/*}/words"
-    exit "$(cat "${0%/*}/status")"
+    cat "$room/stand-in/words"
+    exit "\$(cat "$room/stand-in/status")"
     ;;
-staticlib)
+archive)
     echo 'words of the archive'
     mkdir -p target/staticlib && touch target/staticlib/libuss_c.a
     ;;
 esac
-RT
+PROVE
 cat > "$room/stand-in/cc" <<'CC'
 #!/bin/sh
 printf '#!/bin/sh\necho the bus\n' > target/host/bus && chmod +x target/host/bus
@@ -125,13 +125,14 @@ say 'the log of the refusal' 'words of the refusal' "$(head -n 1 "$house/target/
 rt_says kit-1 0 'rt: low proved (unchanged since it was last proved)' 'rt: side proved (4 s)' 'rt: mid proved (unchanged since it was last proved)' 'rt: ok, 3 crates proved'
 say 'demo/run, one crate and the archive to be made' "demo/run: crates to be proved first: 2. On two cores that takes up to a minute, this once.
 demo/run: crate 2 of 4: side proved (4 s)
-demo/run: crate 4 of 4: uss_c proved, and target/staticlib/libuss_c.a written
+demo/run: crate 4 of 4: uss_c_c proved, and target/staticlib/libuss_c.a written
 the bus
 status 0" "$(run "$house/demo/run")"
 say 'its log has the words of both' 'rt: side proved (4 s)
 words of the archive' "$(cat "$house/target/first-run/demo.log")"
 stamped side
 touch -d '-1 hour' "$house/crates/side/src/lib.rt"
+touch -d '+1 hour' "$house/target/staticlib/libuss_c.a"
 rt_says kit-1 0 'rt: ok, 3 crates proved'
 say 'demo/run, nothing changed' 'the bus
 status 0' "$(run "$house/demo/run")"

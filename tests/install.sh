@@ -13,7 +13,7 @@ have make make
 have pkg-config pkg-config
 have cmake cmake
 have groff-base groff
-[ -f target/staticlib/libuss_c.a ] || rt staticlib uss_c > /dev/null
+[ -f target/staticlib/libuss_c.a ] || lib/prove archive > /dev/null
 room="$(mktemp -d)"
 trap 'rm -rf "$room"' EXIT
 prefix="$room/prefix"
@@ -36,7 +36,7 @@ installed() {
 into_prefix() {
     rt_says 0
     installed "$prefix" > "$room/named" 2> /dev/null
-    [ "$(cat "$room/asked")" = 'staticlib uss_c' ] && diff <(sort "$room/named") <(find "$prefix" -type f | sort) \
+    [ "$(cat "$room/asked")" = 'lib uss_c_c' ] && diff <(sort "$room/named") <(find "$prefix" -type f | sort) \
         && cmp target/staticlib/libuss_c.a "$prefix/lib/libuss_c.a" && diff -r include "$prefix/include"
 }
 

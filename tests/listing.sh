@@ -93,7 +93,7 @@ longest_parts() {
 
 first_starts() {
     local log="$root/target/first-run/telegram-list.log" crates
-    rm -f "$root/target/stamp/telegram_list" "$log"
+    rm -rf "$root/target/stamp/telegram_list" "$root/crates/telegram_list/out" "$log"
     say 'the first start lists' "$(listing "${sound[@]}")" "$(raw $example | ends 0 2> "$room/told")"
     crates="$(sed -nE 's/^telegram-list: crate ([0-9]+) of \1: telegram_list proved \([0-9]+ s\)$/last of all/p' "$room/told")"
     say 'it tells how many crates there are' 'last of all' "$crates"

@@ -2,7 +2,7 @@
 # Compares the numbers that the calls give, wherever they are told. The place is include/uss.h: its enums uss_number and uss_error have
 # name, number and meaning of each. README.md and docs/PROTOCOL.md: every one has a row with the same number, names and meaning, and there
 # is no other; the rules of a table (uss_rule) have their rows in docs/TABLES.md. The definitions in crates/*/specs: the numbers of all
-# definitions NAMENumber over an enum are those of the enums, and no other. The order in which they are tested, by the rows of the definitions, is that of docs/PROTOCOL.md's tables and of each line
+# definitions NAME_number over an enum are those of the enums, and no other. The order in which they are tested, by the rows of the definitions, is that of docs/PROTOCOL.md's tables and of each line
 # "Numbers, in test order" of docs/PROTOCOL.md, docs/CALLS.md and include/uss.h. docs/PROTOCOL.md's pages, tasks and worked telegrams are
 # those of the definitions. Exits 1 where one of these does not hold.
 set -euo pipefail
@@ -65,7 +65,7 @@ ALIASES = dict(re.findall(r"^#define (USS_\w+) (USS_\w+)$", HEADER, re.M))
 SPECS = {path: text_of(path) for path in sorted(glob.glob("crates/*/specs/*.antt"))}
 DEFINED = {}  # name: (the enum, its clauses)
 for path, text in SPECS.items():
-    for name, enum in re.findall(r"^(?:abbrev |unfoldable )?pub (\w+Number) : ([A-Z]\w*) → ℕ$", text, re.M):
+    for name, enum in re.findall(r"^(?:abbrev |unfoldable )?pub (\w+_number) : ([A-Z]\w*) → ℕ$", text, re.M):
         DEFINED[name] = (enum, re.findall(rf"^{name} (.+?) = (.+)$", text, re.M))
 
 
@@ -108,26 +108,26 @@ def cases(text, constructor, name):
 
 def rows(crate, file, name):
     """The numbers of a table of rows that are written out in it or come by the tables of opening and frame check, in order."""
-    parts = {"openingRows": OPENING, "frameNumbers": FRAME}
+    parts = {"opening_rows": OPENING, "frame_numbers": FRAME}
     found = []
-    for part, number in re.findall(r"\b(openingRows|frameNumbers)\b|, (\d+)\)", body_of(crate, file, name)):
+    for part, number in re.findall(r"\b(opening_rows|frame_numbers)\b|, (\d+)\)", body_of(crate, file, name)):
         found += parts[part] if part else [int(number)]
     return found
 
 
-content = body_of("opening", "Answers", "contentRows")
-OPENING = cases(body_of("opening", "Answers", "openingRows").replace("contentRows", content), "Closed", "openingNumber")
-LIST = number_of("openingNumber", "BadPlaces")  # where no list is lent its row never holds
-TABLE = [number for number in cases(content, "Closed", "openingNumber") if number != LIST] + [0]
-FILL = cases(body_of("places", "Fill", "fillingRows"), "Closed", "openingNumber") + [0]
-VIEW = [number_of("openingNumber", "BadTable"), 0]
-FRAME = cases(body_of("frame", "Frame", "frameRows"), "Broken", "frameNumber")
-LISTED = rows("claims_slave", "AnswerTable", "answerRows")
-BUILD = cases(body_of("master", "Build", "admitRows"), "Refused", "buildNumber")
-READ = rows("claims_reply", "AnswerTable", "readingRows")
-same("the rows of the slave call and refusalNumber", sorted(LISTED), sorted(numbers_of("refusalNumber")))
-same("the rows of a build and buildNumber", sorted(BUILD), sorted(numbers_of("buildNumber")))
-same("the rows of a reading and readFaultNumber", sorted(READ), sorted(numbers_of("readFaultNumber")))
+content = body_of("opening", "Answers", "content_rows")
+OPENING = cases(body_of("opening", "Answers", "opening_rows").replace("content_rows", content), "Closed", "opening_number")
+LIST = number_of("opening_number", "BadPlaces")  # where no list is lent its row never holds
+TABLE = [number for number in cases(content, "Closed", "opening_number") if number != LIST] + [0]
+FILL = cases(body_of("places", "Fill", "filling_rows"), "Closed", "opening_number") + [0]
+VIEW = [number_of("opening_number", "BadTable"), 0]
+FRAME = cases(body_of("frame", "Frame", "frame_rows"), "Broken", "frame_number")
+LISTED = rows("claims_slave", "AnswerTable", "answer_rows")
+BUILD = cases(body_of("master", "Build", "admit_rows"), "Refused", "build_number")
+READ = rows("claims_reply", "AnswerTable", "reading_rows")
+same("the rows of the slave call and refusal_number", sorted(LISTED), sorted(numbers_of("refusal_number")))
+same("the rows of a build and build_number", sorted(BUILD), sorted(numbers_of("build_number")))
+same("the rows of a reading and read_fault_number", sorted(READ), sorted(numbers_of("read_fault_number")))
 
 
 def accepted(name):
@@ -135,12 +135,12 @@ def accepted(name):
     return [int(value) for _, value in DEFINED[name][1] if value.isdigit()]
 
 
-SHOW = sorted(set(numbers_of("figureNumber")), reverse=True)  # its one refusal, then 0
-LISTED, BUILD, READ = LISTED + accepted("answerNumber"), BUILD + accepted("builtNumber"), READ + accepted("readNumber")
+SHOW = sorted(set(numbers_of("figure_number")), reverse=True)  # its one refusal, then 0
+LISTED, BUILD, READ = LISTED + accepted("answer_number"), BUILD + accepted("built_number"), READ + accepted("read_number")
 SLAVE = [number for number in LISTED if number != LIST]
-VERDICT = cases(body_of("slave", "Perform", "planOn"), "errorArea a", "errorNumber") \
-    + cases(body_of("verdict", "Verdict", "verdictRows"), "Denied", "errorNumber")
-same("the errors' rows and errorNumber", sorted(VERDICT), sorted(numbers_of("errorNumber")))
+VERDICT = cases(body_of("slave", "Perform", "plan_on"), "error_area a", "error_number") \
+    + cases(body_of("verdict", "Verdict", "verdict_rows"), "Denied", "error_number")
+same("the errors' rows and error_number", sorted(VERDICT), sorted(numbers_of("error_number")))
 
 # ---- the pages: a row for each
 
@@ -193,8 +193,8 @@ protocol = text_of("docs/PROTOCOL.md")
 pages = [int(page) for page in re.findall(r"\d+", body_of("page", "Page", "pages"))]
 same("docs/PROTOCOL.md: pages", [int(page) for page in re.findall(r"\d+", re.search(r"^\| page \|(.*)$", protocol, re.M)[1])], pages)
 
-refused = body_of("task", "Task", "refusedRow")
-TASKS = re.findall(r"taskRow (\w+) (\w+) (\w+) (\d+)", body_of("task", "Task", "tasks").replace("refusedRow", refused))
+refused = body_of("task", "Task", "refused_row")
+TASKS = re.findall(r"task_row (\w+) (\w+) (\w+) (\d+)", body_of("task", "Task", "tasks").replace("refused_row", refused))
 ACTS = {"Nothing": "none", "Read": "read", "Change": "change", "Count": "count the elements", "Refuse": "error 106 (for 4 ours)"}
 WIDTHS = {"Either": "", "Word": "word", "Double": "double"}
 

@@ -1,7 +1,8 @@
 #!/usr/bin/env bash
 # Compares the pages with the sources. docs/PROMISES.md: no public function has a `requires`; every one has a row, with at least two
-# must-fail edits of its own crate (an `extern "C"` function, which hands on to another, at least one) and its own instances of
-# claims_results, one for the result and one for each slice lent for writing; every row names a function, and every edit of the
+# must-fail edits of its own crate (a function of uss_c, which hands on to another, at least one) and its own instances of
+# claims_results, one for the result and one for each slice lent for writing; the exports of uss_c_c are the functions of uss_c, with
+# the same parameters and promises, and each calls the one of its name; every row names a function, and every edit of the
 # repository is named on the page, says in its second line at which fact it fails, and changes no proof. docs/PROTOCOL.md,
 # docs/PROMISES.md, docs/DECISIONS.md, docs/DAMAGE.md, docs/HOUSE.md, docs/TABLES.md and CONTRIBUTING.md: each name that is given with
 # its crate and file stands there. Every page: a link leads to a file of the repository, and to a heading of it where it names one;
@@ -19,6 +20,7 @@ wrong() {
 # a line for each public function: its name, how many edits it has at least, and its lent slices: for each that is lent for writing
 # its parameter and the parameter's place among all, as in `values:2`
 functions="$(for source in crates/*/src/*.rt; do
+    [ "$source" != crates/uss_c_c/src/lib.rt ] || continue
     crate="${source#crates/}"
     awk -v crate="${crate%%/*}" '
         function tell(    name, list, n, i, parts, lent) {
@@ -38,7 +40,7 @@ functions="$(for source in crates/*/src/*.rt; do
             }
             print crate "::" name, least lent
         }
-        /^pub (extern "C" )?fn / { head = ""; reading = 1; least = /^pub extern/ ? 1 : 2 }
+        /^pub (extern "C" )?fn / { head = ""; reading = 1; least = crate == "uss_c" ? 1 : 2 }
         reading && (/^{/ || /^ *(ghost|requires|ensures) /) { reading = 0; tell() }
         reading { head = head $0 }
         reading && /{$/ { reading = 0; tell() }' "$source"
@@ -53,6 +55,16 @@ for source in crates/*/src/*.rt; do
         public && /^ *requires / { print "promises: " source ": " name " has a requires"; bad = 1 }
         END { exit bad }' "$source" || failed=1
 done
+
+# exports CRATE: what a crate offers, its functions' heads and promises
+exports() {
+    sed -nE '/^pub (extern "C" )?fn /,/^\{/{s/^pub extern "C" fn/pub fn/;p}' "crates/$1/src/lib.rt"
+}
+diff <(exports uss_c) <(exports uss_c_c) || wrong 'uss_c_c does not export the functions of uss_c with their promises'
+[ "$(grep -c '^pub extern "C" fn' crates/uss_c_c/src/lib.rt)" = "$(grep -c '^pub fn' crates/uss_c/src/lib.rt)" ] || wrong 'uss_c_c: its exports'
+while read -r name; do
+    [ "$(sed -n "/^pub extern \"C\" fn $name(/,/^}/p" crates/uss_c_c/src/lib.rt | grep -c "^    uss_c::$name(")" = 1 ] || wrong "uss_c_c::$name does not call uss_c::$name"
+done < <(sed -nE 's/^pub extern "C" fn ([a-z_0-9]+).*/\1/p' crates/uss_c_c/src/lib.rt)
 
 # prefix_of NAME: what the names of a function's instances start with: slave-serve for slave::serve, uss-slave for uss_c::uss_slave
 prefix_of() {
@@ -134,7 +146,7 @@ done
 # places PAGE: the names that are given with crate and file, as in `name`, `name` (crate, File) and (`name`; crate, File): a line
 # for each place, with crate, file and names
 places() {
-    local names='`[A-Za-z0-9-]+`((,| and) `[A-Za-z0-9-]+`)*' place='[a-z_]+, [A-Z][A-Za-z0-9]*'
+    local names='`[A-Za-z0-9_-]+`((,| and) `[A-Za-z0-9_-]+`)*' place='[a-z_]+, [A-Z][A-Za-z0-9]*'
     tr -s '\n ' ' ' < "$1" | grep -oE "$names( \($place\)|; $place)" \
         | sed -E 's/^(.*`)(; | \()([a-z_]+), ([A-Za-z0-9]+)\)?$/\3 \4 \1/; s/ and / /g' | tr -d '`,'
 }

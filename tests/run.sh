@@ -125,7 +125,7 @@ comparison() {
 if [ "${1:-}" = --archive-is-built ]; then
     shift
 else
-    rt staticlib uss_c > "$out/staticlib.txt" 2>&1 || { cat "$out/staticlib.txt"; echo "FAILED: rt staticlib uss_c"; exit 1; }
+    lib/prove archive > "$out/staticlib.txt" 2>&1 || { cat "$out/staticlib.txt"; echo "FAILED: lib/prove archive"; exit 1; }
     echo "built: $archive"
 fi
 try 'the archive offers what the header declares' symbols

@@ -8,7 +8,7 @@ cd "$(dirname "$(readlink -f "${BASH_SOURCE[0]}")")/.."
 . tests/have.sh
 . tests/saying.sh
 have cargo cargo rustc
-[ -f target/staticlib/libuss_c.a ] || rt staticlib uss_c > /dev/null
+[ -f target/staticlib/libuss_c.a ] || lib/prove archive > /dev/null
 export CARGO_TARGET_DIR="$PWD/target/rust" RUSTFLAGS='-D warnings' RUSTDOCFLAGS='-D warnings'
 unset USS_LIB_DIR
 room="$(mktemp -d)"
@@ -81,7 +81,7 @@ places() {
     while read -r target folder; do
         grep -qx "$target" "$room/targets" || { echo "rustc knows no $target"; return 1; }
         command="ports/build ${folder#ports/}"
-        [ "$folder" != staticlib ] || command='rt staticlib uss_c'
+        [ "$folder" != staticlib ] || command='lib/prove archive'
         RUSTC="$room/rustc" found "$target" "$folder" "$command" || { echo "$target: $(cat "$room/said")"; return 1; }
     done < "$room/pairs"
     ! MINOR=88 RUSTC="$room/rustc" place wasm32-unknown-unknown > "$room/said" && grep -q 'needs Rust 1.89' "$room/said" \

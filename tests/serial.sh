@@ -9,7 +9,7 @@ cd "$(dirname "$(readlink -f "${BASH_SOURCE[0]}")")/.."
 . tests/saying.sh
 have gcc gcc
 have python3 python3
-[ -f target/staticlib/libuss_c.a ] || rt staticlib uss_c > /dev/null
+[ -f target/staticlib/libuss_c.a ] || lib/prove archive > /dev/null
 
 # by the lines of the page, with every warning an error
 builds() {

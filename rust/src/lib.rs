@@ -6,7 +6,7 @@
 //! Rust owes nothing more.
 //!
 //! Where the archive is looked for: in the folder that the environment variable `USS_LIB_DIR` names, when the crate is built; else
-//! where `rt staticlib uss_c` (x86-64) or `ports/build` (other chips) of the repository writes the one of the target.
+//! where `lib/prove archive` (x86-64) or `ports/build` (other chips) of the repository writes the one of the target.
 //!
 //! # A master and a drive
 //!

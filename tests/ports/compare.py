@@ -87,7 +87,7 @@ def run(name, program, wanted, head):
 
 
 def reference(builder, head):
-    """The stream of the archive that rt staticlib wrote for x86-64. Every check in it holds; every answer number, every parameter
+    """The stream of the archive that lib/prove wrote for x86-64. Every check in it holds; every answer number, every parameter
     error, every rule of a table and every known telegram is one of them; every call of the header was made."""
     own = os.path.join(ROOT, "target", "ports", "module", "libuss_c.a")
     program = builder.link("x86-64", builder.objects(X86), [own], "x86-64")
