@@ -77,6 +77,7 @@ fn number_answer(rule: u32) -> u32
 }
 
 // A rule, with record and place. Here and below the bounds only keep numbers within 32 bits.
+#[tactic(auto, unfolding(crate::specs::Checks::told))]
 fn tell(rule: Rule, k: usize, place: usize) -> TableCheck
     requires { (k ≤ 1000000) × (place ≤ 1000000) }
     ensures { result ≡ told rule k place }
@@ -93,6 +94,7 @@ fn tell(rule: Rule, k: usize, place: usize) -> TableCheck
 // ---- a record
 
 // Record k of a table that has it.
+#[tactic(auto, using(table::proofs::RecordsLaws::entry_part))]
 fn read_entry(t: &[u8], k: usize) -> Entry
     requires { 12 * k + 12 ≤ length t.now }
     ensures { result ≡ entry_at t.now k }
@@ -102,6 +104,7 @@ fn read_entry(t: &[u8], k: usize) -> Entry
 }
 
 // Whether a word's limit has an upper half.
+#[tactic(auto, using(crate::proofs::CheckLaws::low_upper, crate::proofs::CheckLaws::high_upper), unfolding(limits::specs::Limits::fits_in))]
 fn has_upper_half(e: Entry) -> bool
     ensures { result ≡ not (fits_in e.double e.minimum && fits_in e.double e.maximum) }
 {
@@ -115,6 +118,7 @@ fn has_upper_half(e: Entry) -> bool
 }
 
 // The first rule that a record breaks: `least` is the least number that may stand there, `place` the first of its places.
+#[tactic(auto, using(crate::proofs::CheckLaws::count_few, crate::proofs::CheckLaws::last_rule), unfolding(crate::specs::Checks::record_rule))]
 fn find_rule(e: Entry, least: u16, place: usize) -> Rule
     requires { place ≤ 1000000 }
     ensures { result ≡ record_rule least place e }
