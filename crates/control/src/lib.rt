@@ -9,6 +9,7 @@ use setup::Setup;
 use words::Words;
 
 // The control words after a normal telegram with n net bytes.
+#[tactic(auto, unfolding(crate::specs::Control::control_taken))]
 pub fn take_control(setup: Setup, n: usize, control: Words, received: &[u8]) -> Words
     ensures { result ≡ control_taken setup n control received.now }
 {
@@ -30,6 +31,7 @@ pub enum Commanded {
 }
 
 // The command in an area of `count` words. Four words can always be read, as a byte past the end is 0; the fourth counts in four.
+#[tactic(auto, using(crate::proofs::ControlLaws::command_four, crate::proofs::ControlLaws::command_other))]
 fn read_command(received: &[u8], count: u8) -> Command
     ensures { result ≡ command_at received.now count }
 {
