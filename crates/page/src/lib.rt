@@ -25,6 +25,7 @@ pub fn nibble_of(number: u16) -> u8
 }
 
 // The full number of PKE and IND: 2000 times the page, and the base.
+#[tactic(auto, using(crate::proofs::PageLaws::page_small))]
 pub fn full_number(pke: u16, ind: u16) -> u16
     ensures { result ≡ full_number pke ind }
 {
