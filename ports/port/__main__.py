@@ -21,7 +21,7 @@ def read_all(kit):
     folder = os.path.join("target", "ports", "module")
     module.prove(ROOT, kit, os.path.join(ROOT, folder))
     proved = module.read(os.path.join(folder, "module.ll"))
-    shim.compare_module(head, proved, module.LIBRARY)
+    shim.compare_module(head, proved, module.CRATE)
     return head, proved
 
 

@@ -1,6 +1,5 @@
 """The Rattle kit: its folder, and its one program that compiles, links and archives for every target."""
 import os
-import platform
 import shutil
 import subprocess
 
@@ -15,10 +14,9 @@ class Kit:
         if rt is None:
             raise BadInput("rt is missing")
         self.home = os.environ.get("RATTLE_HOME") or os.path.dirname(os.path.dirname(os.path.realpath(rt)))
-        self.own = os.path.join(self.home, "on", platform.machine())
-        self.clang = os.path.join(self.own, "toolchain", "bin", "clang")
+        self.clang = os.path.join(self.home, "toolchain", "bin", "clang")
         if not os.access(self.clang, os.X_OK):
-            raise BadInput(f"the kit at {self.home} has no clang for this machine, {platform.machine()}")
+            raise BadInput(f"the kit at {self.home} has no clang for this machine")
 
     def run(self, name, words, folder=None):
         """The kit's program under one of its names; gives (status, what it wrote, what it said)."""

@@ -1,7 +1,7 @@
 """The proved library as one LLVM module: has it proved by rt, keeps the module that rt's clang is given, and reads it.
 
-rt is run as it is, over a folder of links to the kit in which clang is a script: it keeps a copy of the module and goes on with
-the kit's clang. So the archive for x86-64 and the module are of one run."""
+A copy of rt is run, in a folder of links to the kit in which clang is a script: it keeps a copy of the module and goes on with the
+kit's clang. So the archive for x86-64 and the module are of one run."""
 import hashlib
 import os
 import re
@@ -12,6 +12,7 @@ from collections import namedtuple
 from refuse import Refused
 
 LIBRARY = "uss_c"
+CRATE = "uss_c_c"  # exports the functions of the library for C
 
 Function = namedtuple("Function", "name inner returns parameters head body")
 # inner: not called from C. returns: the IR type; parameters: (IR type, name). body: its lines
@@ -27,10 +28,10 @@ def needed(root):
         for line in file:
             name, colon, rest = line.split("#")[0].partition(":")
             if colon:
-                depends[name.strip()] = rest.split()
-    if LIBRARY not in depends:
-        raise Refused(f"crates.txt does not list {LIBRARY}")
-    found, left = [], [LIBRARY]
+                depends[name.split()[0]] = rest.split()
+    if CRATE not in depends:
+        raise Refused(f"crates.txt does not list {CRATE}")
+    found, left = [], [CRATE]
     while left:
         name = left.pop()
         if name in depends and name not in found:
@@ -58,17 +59,15 @@ def linked_kit(kit, folder, kept):
     def links(source, to, but):
         os.makedirs(to)
         for name in os.listdir(source):
-            if name != but:
-                os.symlink(os.path.join(source, name), os.path.join(to, name))
-    machine = os.path.basename(kit.own)
-    links(kit.home, folder, "on")
-    links(kit.own, os.path.join(folder, "on", machine), "toolchain")
-    tools = os.path.join(folder, "on", machine, "toolchain")
-    links(os.path.join(kit.own, "toolchain"), tools, "bin")
-    links(os.path.join(kit.own, "toolchain", "bin"), os.path.join(tools, "bin"), "clang")
-    for name in os.listdir(os.path.join(tools, "bin")):  # names of the one program; a link to our clang would be the script
-        os.remove(os.path.join(tools, "bin", name))
-        os.symlink(kit.clang, os.path.join(tools, "bin", name))
+            if name not in but:
+                os.symlink(os.path.realpath(os.path.join(source, name)), os.path.join(to, name))
+    links(kit.home, folder, ("bin", "toolchain"))
+    links(os.path.join(kit.home, "bin"), os.path.join(folder, "bin"), ("rt", "rtlib.py"))
+    for name in ("rt", "rtlib.py"):  # rt looks for its kit beside itself
+        shutil.copy(os.path.join(kit.home, "bin", name), os.path.join(folder, "bin", name))
+    tools = os.path.join(folder, "toolchain")
+    links(os.path.join(kit.home, "toolchain"), tools, ("bin",))
+    links(os.path.join(kit.home, "toolchain", "bin"), os.path.join(tools, "bin"), ("clang",))
     script = os.path.join(tools, "bin", "clang")
     with open(script, "w") as file:
         file.write(f"""#!/bin/sh
@@ -95,16 +94,16 @@ def prove(root, kit, folder):
     os.makedirs(folder)
     kept, links = os.path.join(folder, "module.bc"), os.path.join(folder, "kit")
     linked_kit(kit, links, kept)
-    print(f"proving the library (rt staticlib {LIBRARY}): some minutes where nothing is proved yet", flush=True)
-    done = subprocess.run(["rt", "staticlib", LIBRARY], cwd=root, env={**os.environ, "RATTLE_HOME": links},
+    print(f"proving the library (rt lib {CRATE}): some minutes where nothing is proved yet", flush=True)
+    done = subprocess.run([os.path.join(links, "bin", "rt"), "lib", CRATE, "--cpu", "x86-64"], cwd=root,
                           stdout=subprocess.PIPE, stderr=subprocess.STDOUT, text=True)
     shutil.rmtree(links)
     if done.returncode != 0 or not re.search(r"^logic=proved ", done.stdout, re.M):
         print(done.stdout, end="")
-        raise Refused(f"rt staticlib {LIBRARY}: not proved")
+        raise Refused(f"rt lib {CRATE}: not proved")
     if not os.path.exists(kept):
-        raise Refused(f"rt staticlib {LIBRARY}: its clang was given no module")
-    shutil.copy(os.path.join(root, "target", "staticlib", f"lib{LIBRARY}.a"), folder)
+        raise Refused(f"rt lib {CRATE}: its clang was given no module")
+    shutil.copy(os.path.join(root, "crates", CRATE, "out", f"lib{CRATE}.a"), os.path.join(folder, f"lib{LIBRARY}.a"))
     kit.must("clang", ["--no-default-config", "-x", "ir", "-O0", "-Xclang", "-disable-llvm-passes", "-S", "-emit-llvm",
                        "module.bc", "-o", "module.ll"], folder)
     if now != stamp(root, kit):
@@ -124,6 +123,7 @@ WORDS = OPCODES | set("""align double eq exact false i1 i16 i32 i64 i8 inbounds 
     true uge ugt ule ult void x zeroext""".split())
 NUMBER = r"-?\b\d+(?:\.\d+e[+-]\d+)?\b"
 MEMMOVE = "llvm.memmove.p0.p0.i64"
+MEMSET = "llvm.memset.p0.i64"
 HEAD = re.compile(r'define (internal )?(?:noundef |zeroext )*(.+?) @("[^"]+"|\w+)\((.*)\) #0 \{')
 TAIL = [  # all that may stand outside functions
     r"; ModuleID = .*",
@@ -131,9 +131,10 @@ TAIL = [  # all that may stand outside functions
     r'target datalayout = "e-[^"]*"',
     r'target triple = "x86_64-unknown-linux-gnu"',
     r"; Function Attrs: .*",
-    r"declare void @llvm\.memmove\.p0\.p0\.i64\(ptr writeonly captures\(none\), ptr readonly captures\(none\), i64, i1 immarg\) #1",
-    r'attributes #0 = \{ nounwind "probe-stack"="inline-asm" "target-cpu"="x86-64" \}',
-    r"attributes #1 = \{ nocallback nofree nounwind willreturn memory\(argmem: readwrite\) \}",
+    r"declare void @llvm\.memmove\.p0\.p0\.i64\(ptr writeonly captures\(none\), ptr readonly captures\(none\), i64, i1 immarg\) #[12]",
+    r"declare void @llvm\.memset\.p0\.i64\(ptr writeonly captures\(none\), i8, i64, i1 immarg\) #[12]",
+    r'attributes #0 = \{ nounwind "probe-stack"="inline-asm" "stack-probe-size"="\d+" "target-cpu"="x86-64" \}',
+    r"attributes #[12] = \{ nocallback nofree nounwind willreturn memory\(argmem: (?:readwrite|write)\) \}",
     r"!llvm\.ident = !\{!0\}",
     r'!0 = !\{!"rattle logic=[0-9a-f]+"\}',
     r"![1-9] = !\{(i8 0, i8 \d+)?\}",
@@ -165,6 +166,8 @@ def read_body(name, lines):
             raise Refused(f"the module's {name} has an instruction that is not understood: {text.strip()}")
         if called == [MEMMOVE] and not re.search(r"i64 \d+, i1 false\)$", text):
             raise Refused(f"the module's {name} moves bytes in a way that is not understood: {text.strip()}")
+        if called == [MEMSET] and not re.search(r"i8 0, i64 \d+, i1 false\)$", text):
+            raise Refused(f"the module's {name} sets bytes in a way that is not understood: {text.strip()}")
 
 
 def read(path):
@@ -191,6 +194,6 @@ def read(path):
     inner = {name for name, f in functions.items() if f.inner}
     for f in functions.values():
         for called in re.findall(r'@("[^"]+"|[\w.]+)', "\n".join(f.body)):
-            if called.strip('"') not in inner | {MEMMOVE}:
+            if called.strip('"') not in inner | {MEMMOVE, MEMSET}:
                 raise Refused(f"the module's {f.name} calls {called}, which is not in it")
     return Module(functions, tail)

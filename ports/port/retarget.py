@@ -3,7 +3,7 @@ triple, cpu, features and the extension of returned numbers taken from what clan
 pointers have 32 bits, a division of 64 bits asks first whether one of 32 does it: counts have 32 bits there, which clang sees."""
 import re
 
-from module import LIBRARY
+from module import CRATE
 from refuse import Refused
 from shim import inner
 
@@ -61,7 +61,7 @@ def retarget(header, module, shims):
 
     renamed, heads = {}, {}
     for call in header.calls.values():
-        function = module.functions[f"{LIBRARY}::{call.name}"]
+        function = module.functions[f"{CRATE}::{call.name}"]
         returns, types, extended = declared(shims, inner(call))
         if returns[-1] != function.returns or types != [type_ for type_, _ in function.parameters]:
             raise Refused(f"{call.name}: clang calls {returns} {types}, the module has {function.returns} {function.parameters}")

@@ -4,7 +4,7 @@ import os
 import re
 
 from header import FIELDS
-from module import LIBRARY, needed
+from module import CRATE, needed
 from refuse import Refused
 
 RATTLE = {"uint8_t": "u8", "uint16_t": "u16", "uint32_t": "u32", "uint64_t": "u64", "double": "f64"}
@@ -31,13 +31,13 @@ def compare(header, root):
     structs, calls = {}, {}
     for name in needed(root):
         text = texts(os.path.join(root, "crates", name, "src"))
-        for struct, fields in re.findall(r"#\[repr\(C\)\]\s*pub struct (\w+)\s*\{([^}]*)\}", text):
+        for struct, fields in re.findall(r"#\[repr\(C\)\]\s*(?:#\[derive\([^)]*\)\]\s*)?pub struct (\w+)\s*\{([^}]*)\}", text):
             structs.setdefault(struct, []).append(pairs(fields))
-    own = texts(os.path.join(root, "crates", LIBRARY, "src"))
-    for name, parameters, returns in re.findall(r'#\[no_mangle\]\s*pub extern "C" fn (\w+)\s*\(([^)]*)\)\s*->\s*([\w:]+)', own):
+    own = texts(os.path.join(root, "crates", CRATE, "src"))
+    for name, parameters, returns in re.findall(r'#\[unsafe\(no_mangle\)\]\s*pub extern "C" fn (\w+)\s*\(([^)]*)\)\s*->\s*([\w:]+)', own):
         calls[name] = (pairs(parameters), returns.split("::")[-1])
     if set(calls) != set(header.calls):
-        raise Refused(f"uss.h and crates/{LIBRARY} do not have the same calls: {' '.join(sorted(set(calls) ^ set(header.calls)))}")
+        raise Refused(f"uss.h and crates/{CRATE} do not have the same calls: {' '.join(sorted(set(calls) ^ set(header.calls)))}")
 
     same = {}  # struct of the header -> struct of the source
 

@@ -48,7 +48,7 @@ def path_without(tool, folder):
 
 def kit_without(own, folder, what):
     """A kit whose clang does not know one family of targets."""
-    tools = os.path.join(folder, "on", os.path.basename(own.own), "toolchain", "bin")
+    tools = os.path.join(folder, "toolchain", "bin")
     os.makedirs(tools)
     with open(os.path.join(tools, "clang"), "w") as file:
         file.write(f'#!/bin/sh\ncase "$*" in *{what}*) echo "error: unable to create target" >&2; exit 1 ;; esac\n'
@@ -126,7 +126,7 @@ MODULES = [  # the same for the module
     ("another target", "x86_64-unknown-linux-gnu", "x86_64-apple-macosx"),
     ("another attribute", "attributes #0 = { nounwind ", "attributes #0 = { nounwind naked "),
     ("a struct copied with another size", "(ptr %a0, ptr %r0, i64 16, i1 false)", "(ptr %a0, ptr %r0, i64 12, i1 false)"),
-    ("an inner function of another name", '@"uss_c::uss_bcc"(', '@"uss_c::uss_sum"('),
+    ("an inner function of another name", '@"uss_c_c::uss_bcc"(', '@"uss_c_c::uss_sum"('),
 ]
 
 
@@ -156,10 +156,10 @@ def main():
     def read_header(name):
         wrong = header.read(name)
         source.compare(wrong, ROOT)
-        shim.compare_module(wrong, proved, module.LIBRARY)
+        shim.compare_module(wrong, proved, module.CRATE)
 
     def read_module(name):
-        shim.compare_module(head, module.read(name), module.LIBRARY)
+        shim.compare_module(head, module.read(name), module.CRATE)
 
     def layout(target):
         """None where the static asserts see a compiler whose uint16_t has four bytes."""
