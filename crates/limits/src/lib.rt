@@ -7,6 +7,7 @@ ghost use Rattle.limits.specs.Limits.{at_most, fits_in, is_within, entry_ok};
 use entry::Entry;
 
 // Whether a is at most b, as the parameter's kind is compared.
+#[tactic(auto, unfolding(crate::specs::Limits::at_most, crate::specs::Limits::number_of))]
 pub fn at_most(double: bool, signed: bool, a: u32, b: u32) -> bool
     ensures { result ≡ at_most double signed a b }
 {
@@ -20,6 +21,7 @@ pub fn at_most(double: bool, signed: bool, a: u32, b: u32) -> bool
 }
 
 // Whether a value has no upper half that its kind forbids.
+#[tactic(auto, unfolding(crate::specs::Limits::fits_in))]
 fn fits_in(double: bool, v: u32) -> bool
     ensures { result ≡ fits_in double v }
 {
@@ -27,6 +29,7 @@ fn fits_in(double: bool, v: u32) -> bool
 }
 
 // Whether a value is within a record's limits.
+#[tactic(auto, unfolding(crate::specs::Limits::is_within))]
 pub fn within(e: Entry, v: u32) -> bool
     ensures { result ≡ is_within e v }
 {
@@ -39,6 +42,7 @@ pub fn within(e: Entry, v: u32) -> bool
 }
 
 // Whether a record keeps the rules that it can break by itself.
+#[tactic(auto, unfolding(crate::specs::Limits::entry_ok))]
 pub fn entry_ok(e: Entry) -> bool
     ensures { result ≡ entry_ok e }
 {
