@@ -21,6 +21,7 @@ pub struct Built {
 }
 
 // 30, 31 and 32 in that order: of the set-up, of a request that can be asked or not, of a buffer's length.
+#[tactic(auto, unfolding(crate::specs::Build::admitted))]
 fn admit(setup: Setup, askable: bool, room: usize) -> BuildAnswer
     ensures { result ≡ admitted setup askable room }
 {
