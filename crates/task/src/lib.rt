@@ -61,6 +61,7 @@ fn count_if(counts: bool) -> Act
 }
 
 // What the task ID asks; IDs over 15 do not occur and are refused like 15.
+#[tactic(auto, unfolding(crate::specs::Task::task_of, crate::specs::Task::tasks))]
 pub fn task_of(id: u8) -> Task
     ensures { result ≡ task_of id }
 {
