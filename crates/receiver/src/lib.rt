@@ -266,6 +266,7 @@ pub fn receive_bytes(receiver: Receiver, bytes: &[u8], page: &mut [u8]) -> Recei
 }
 
 // One pause, as a timer has it: it arms, from any state, and no page is looked at.
+#[tactic(auto, unfolding(step::specs::Step::step_of, crate::specs::Receive::run_from))]
 pub fn pause(receiver: Receiver) -> Receiver
     ensures paused { (page : List ℕ) → result ≡ (received_of receiver.state (256 ∷ []) page).received.receiver }
     ensures page_stays { (page : List ℕ) → (received_of receiver.state (256 ∷ []) page).page ≡ page }
