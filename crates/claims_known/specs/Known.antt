@@ -1,7 +1,7 @@
 -- The known telegrams of document 01 ("Telegrams to prove and to run"), each as what the definitions give beside what the
 -- document says. Slave and master have four parameter words in all of them.
---     known                the list, K1 to K12 in order; k1-first to k12 are its cases, each under its K number
---     printed, k8-paged    beside the list: 000's example of an XOR, and the other half of K8
+--     known                the list, K1 to K12 in order; k1_first to k12 are its cases, each under its K number
+--     printed, k8_paged    beside the list: 000's example of an XOR, and the other half of K8
 --     indexed              beside the list: plain tasks by index (document 02, W-203)
 use Rattle.std.specs.Prelude.{ℕ, ◌/◌, ◌%◌, List, [], ◌∷◌, replicate, take}
 use Rattle.bcc.specs.Bcc.{xor_all}
