@@ -8,7 +8,7 @@
 --     area_in k            the received parameter area
 --     GrantedChange k j    the call asks for a change of a value of record j, and no error applies
 --     place_in k j         the place that it means
-use Rattle.std.specs.Prelude.{ℕ, ◌+◌, ◌≤◌, ◌<◌, ◌≡◌, ◌⊎◌, Bool, true, false, List, length, drop}
+use Rattle.std.specs.Prelude.{ℕ, ◌+◌, ◌≤◌, ◌<◌, ◌≡◌, ◌⊎◌, Bool, true, false, length, drop}
 use Rattle.frame.specs.Frame.{last_of, frame_of}
 use Rattle.address.specs.Address.{decoded_of}
 use Rattle.frame.specs.declared.FrameCheck.TheVariants.{Sound}
