@@ -31,6 +31,7 @@ fn double_in(t: &[u8], at: usize) -> u32
 }
 
 // A record from its 12 bytes; all 0 where there are fewer.
+#[tactic(auto, unfolding(crate::specs::Records::record_of))]
 pub fn record_of(t: &[u8]) -> Record
     ensures { result ≡ record_of t.now }
 {
@@ -64,6 +65,7 @@ fn has_number(t: &[u8], k: usize, number: u16) -> bool
 }
 
 // The place of the first record with this number.
+#[tactic(auto, using(crate::proofs::RecordsLaws::entries_step, crate::proofs::RecordsLaws::entries_end, crate::proofs::RecordsLaws::find_here, crate::proofs::RecordsLaws::find_on, crate::proofs::RecordsLaws::find_none), unfolding(crate::specs::Records::entries))]
 pub fn find(t: &[u8], number: u16) -> Found
     ensures { result ≡ find_in t.now number }
 {
