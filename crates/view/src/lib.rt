@@ -36,6 +36,7 @@ pub struct Shown {
 // ---- a record
 
 // Record k of a table that has it.
+#[tactic(auto, using(table::proofs::RecordsLaws::entry_part))]
 fn read_entry(t: &[u8], k: usize) -> Entry
     requires { 12 * k + 12 ≤ length t.now }
     ensures { result ≡ entry_at t.now k }
@@ -52,6 +53,7 @@ fn flag(b: bool) -> u32
 }
 
 // A record's fields as they are shown.
+#[tactic(auto, unfolding(crate::specs::View::shown_of))]
 fn show_entry(e: Entry) -> Shown
     ensures { result ≡ shown_of e }
 {
@@ -86,6 +88,7 @@ fn show_nothing() -> Shown
 // ---- the cursor beside the table
 
 // The start: 21 for a table that breaks a rule, and else the first record.
+#[tactic(auto, unfolding(crate::specs::View::open_of))]
 pub fn first(table: &[u8]) -> Cursor
     ensures { result ≡ open_of table.now }
 {
@@ -99,6 +102,7 @@ pub fn first(table: &[u8]) -> Cursor
 }
 
 // Whether a record is there. A table has no more than 512 records.
+#[tactic(auto, unfolding(crate::specs::View::is_there))]
 fn is_there(table: &[u8], cursor: Cursor) -> bool
     ensures { result ≡ is_there table.now cursor }
 {
@@ -112,6 +116,7 @@ fn is_there(table: &[u8], cursor: Cursor) -> bool
 }
 
 // The record that the cursor stands at.
+#[tactic(auto, using(crate::proofs::ViewLaws::there_is, crate::proofs::ViewLaws::show_none, crate::proofs::ViewLaws::show_record))]
 pub fn look(table: &[u8], cursor: Cursor) -> Shown
     ensures { result ≡ show_of table.now cursor }
 {
@@ -122,6 +127,7 @@ pub fn look(table: &[u8], cursor: Cursor) -> Shown
 }
 
 // One record on. Where no record is there the cursor stays.
+#[tactic(auto, using(crate::proofs::ViewLaws::there_is, crate::proofs::ViewLaws::step_none, crate::proofs::ViewLaws::step_record))]
 pub fn next(table: &[u8], cursor: Cursor) -> Cursor
     ensures { result ≡ step_of table.now cursor }
 {
