@@ -57,6 +57,7 @@ fn sum_places(t: &[u8], k: usize) -> usize
 
 // The first value place of record k, in a table whose records take `count` places at most: looked up where a list is lent, else added
 // up. Where there are no more places than records, each takes one.
+#[tactic(auto, using(table::proofs::PlacesLaws::places_length, table::proofs::PlacesLaws::places_at, crate::proofs::PerformLaws::places_single))]
 fn first_place(t: &[u8], k: usize, count: usize, places: &[u16], listed: bool) -> usize
     requires { (12 * k + 12 ≤ length t.now) × (k ≤ 512) × (counts_of (entries t.now) ≤ count) × (listed ≡ true → places.now ≡ places_of t.now) }
     ensures { result ≡ first_place t.now k }
@@ -79,6 +80,7 @@ pub struct Plan {
 
 // The task in an area of n words, on a table of `count` places that passed the opening check. Task 0 does nothing, and no error is
 // looked for in it.
+#[tactic(auto, using(crate::proofs::PerformLaws::plan_unnamed, crate::proofs::PerformLaws::found_whole), unfolding(crate::specs::Perform::plan_in))]
 fn plan_task(n: u8, table: &[u8], count: usize, places: &[u16], listed: bool, area: Area) -> Plan
     requires { (length table.now ≤ 6144) × (counts_of (entries table.now) ≤ count) × (listed ≡ true → places.now ≡ places_of table.now) }
     ensures { result ≡ plan_in n table.now area }
@@ -114,6 +116,7 @@ fn plan_task(n: u8, table: &[u8], count: usize, places: &[u16], listed: bool, ar
 }
 
 // The parameter task of a telegram whose area has n words, if it has one.
+#[tactic(auto, unfolding(crate::specs::Perform::plan_at))]
 fn plan_area(
     n: u8,
     table: &[u8],
