@@ -1,8 +1,8 @@
 -- The answer of a slave call is that of document 01's table, for every input. Assumes nothing.
---     answer-table      the number is that of the first line that holds, and 0, 1 or 2 where none does
---     answer-exactly    a number is given exactly when its line holds and no earlier one does
---     exactly-answer    and the number so told is the answer's
---     beyond-frame      with an opening check and a frame check that pass, the number is none of 10 to 14
+--     answer_table      the number is that of the first line that holds, and 0, 1 or 2 where none does
+--     answer_exactly    a number is given exactly when its line holds and no earlier one does
+--     exactly_answer    and the number so told is the answer's
+--     beyond_frame      with an opening check and a frame check that pass, the number is none of 10 to 14
 use Prim.Native.Nat.{ℕ, ◌-◌, ◌%◌}
 use mathlib.Core.Path.{◌≡◌, refl, sym, ap, subst, ◌∙◌}
 use mathlib.Core.Logic.{inl, inr}

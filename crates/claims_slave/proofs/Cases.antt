@@ -1,5 +1,5 @@
 -- What a slave call can be: one refusal, or one of the three answers with the tests that led to it. Assumes nothing.
---     call-cases        what holds of a refusal and of the three answers holds of the call; with an opening check that passes,
+--     call_cases        what holds of a refusal and of the three answers holds of the call; with an opening check that passes,
 --                       a refusal is none of 20 to 23 and 25
 use Prim.Native.Nat.{ℕ, ◌-◌, ◌<◌}
 use mathlib.Core.Path.{◌≡◌, refl, sym, ap, ◌∙◌}

@@ -1,9 +1,9 @@
 -- Damage to a telegram at the slave call: with an opening check that passes, damage that the frame check sees is refused with
 -- 10 to 14, and changes nothing; all other damage is past the frame check. Assumes nothing.
---     damaged-exactly                                                                        demand 3's passing half: past the frame check exactly where the damage is unseen
---     refused-exactly                                                                        refused in frame exactly where it is not
---     damaged-refused                                                                        any damage that is not unseen
---     odd_refused, one-byte-refused, burst-refused, first-hit-refused, second-hit-refused    its kinds
+--     damaged_exactly                                                                        demand 3's passing half: past the frame check exactly where the damage is unseen
+--     refused_exactly                                                                        refused in frame exactly where it is not
+--     damaged_refused                                                                        any damage that is not unseen
+--     odd_refused, one_byte_refused, burst_refused, first_hit_refused, second_hit_refused    its kinds
 use Prim.Native.Nat.{ℕ, ◌%◌, ◌<◌}
 use mathlib.Core.Path.{◌≡◌, refl, sym, ap, ◌∙◌}
 use mathlib.Core.Logic.{◌↔◌, inl, inr}

@@ -1,7 +1,7 @@
 -- What a slave call keeps. Assumes nothing.
---     refused-keeps    a refused call leaves values, control words and reply buffer as they were, and reports length 0
---     opening-kept     after a call that passed the opening check, the next one passes it too
---     buffer-kept      a call that passed the opening check leaves a buffer of the same length
+--     refused_keeps    a refused call leaves values, control words and reply buffer as they were, and reports length 0
+--     opening_kept     after a call that passed the opening check, the next one passes it too
+--     buffer_kept      a call that passed the opening check leaves a buffer of the same length
 use Prim.Native.Nat.{ℕ, ◌+◌, ◌*◌, ◌/◌, ◌<◌}
 use mathlib.Core.Path.{◌≡◌, refl}
 use mathlib.Core.Bool.{Bool, true, false, false≢true}

@@ -1,9 +1,9 @@
 -- The slave with a list of first places. Assumes nothing.
---     listed-adds     with a right list it answers exactly as the slave that adds: answer, reply, values and control words
---     listed-run      so does every sequence of calls
---     right-list      a list is right exactly where it is the list of the first places
---     filled-right    the list that was filled from a table is right for it
---     wrong-list      any other list is 25 where the lines 20 to 22 do not hold, and nothing is touched
+--     listed_adds     with a right list it answers exactly as the slave that adds: answer, reply, values and control words
+--     listed_run      so does every sequence of calls
+--     right_list      a list is right exactly where it is the list of the first places
+--     filled_right    the list that was filled from a table is right for it
+--     wrong_list      any other list is 25 where the lines 20 to 22 do not hold, and nothing is touched
 use Prim.Native.Nat.{ℕ}
 use mathlib.Core.Path.{◌≡◌, refl, ap, ◌∙◌}
 use mathlib.Core.Logic.{◌↔◌}

@@ -1,5 +1,5 @@
 -- Tasks 1, 2, 3, 13 and 14 use the index as tasks 6, 7 and 8 do, and reply with their own IDs (document 02, W-203). Assumes nothing.
---     plain-by-index      whatever table, values and area: the same error, or the same value read or written
+--     plain_by_index      whatever table, values and area: the same error, or the same value read or written
 use Prim.Native.Nat.{ℕ, ◌+◌, ◌*◌, ◌/◌, ◌%◌, ◌<◌}
 use mathlib.Core.Path.{◌≡◌, refl, sym, ap, ◌∙◌}
 use mathlib.Core.Bool.{Bool, true, false}

@@ -1,8 +1,8 @@
 -- What a slave call that replies sends, stores and takes. Assumes nothing.
---     reply-sound         a reply passes the frame check and has the task's node and lengths
---     mirror-same         a mirror's reply is the received telegram, byte for byte
---     change-stored       a granted change stores the value that it carries at the place that it means, and nowhere else
---     control-replaced    with bit 10, the first PZD control words are those received
+--     reply_sound         a reply passes the frame check and has the task's node and lengths
+--     mirror_same         a mirror's reply is the received telegram, byte for byte
+--     change_stored       a granted change stores the value that it carries at the place that it means, and nowhere else
+--     control_replaced    with bit 10, the first PZD control words are those received
 --     taken_runs          after a broadcast that is taken, bit 10 of the first control word is 1
 use Prim.Native.Nat.{ℕ, ◌/◌, ◌<◌}
 use mathlib.Core.Path.{◌≡◌, refl, sym, ap, ◌∙◌}

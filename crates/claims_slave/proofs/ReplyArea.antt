@@ -1,6 +1,6 @@
 -- The parameter area of every reply, for any received bytes. Assumes nothing.
---     four-sent     four words: ID, must-be-zero bits, and PWE1 is 0 unless the ID is 2 or 5
---     three-sent    three words: the same, no double value, and PWE1 holds the value or error number
+--     four_sent     four words: ID, must-be-zero bits, and PWE1 is 0 unless the ID is 2 or 5
+--     three_sent    three words: the same, no double value, and PWE1 holds the value or error number
 use Prim.Native.Nat.{ℕ, ◌/◌, ◌%◌, ◌<◌}
 use mathlib.Core.Path.{◌≡◌, ap, ◌∙◌}
 use mathlib.Core.List.{List}

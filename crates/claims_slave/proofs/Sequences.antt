@@ -1,8 +1,8 @@
 -- Sequences of slave calls. Assumes nothing.
---     striking-out    striking out refused telegrams, all or any of them, alters no other reply and no final state
---     run-next        each call starts from what the last one left
+--     striking_out    striking out refused telegrams, all or any of them, alters no other reply and no final state
+--     run_next        each call starts from what the last one left
 --     stays_open      where the opening check passes at the start, it passes after any sequence
---     never-closed    and no call of it answers 20 to 23 or 25
+--     never_closed    and no call of it answers 20 to 23 or 25
 use Prim.Native.Nat.{ℕ, ◌<◌}
 use mathlib.Core.Path.{◌≡◌, refl, sym, ap, ◌∙◌}
 use mathlib.Core.Bool.{Bool, true, false, ◌&&◌}

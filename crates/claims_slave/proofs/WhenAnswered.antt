@@ -1,7 +1,7 @@
 -- When a slave call replies. Assumes nothing.
---     replied-exactly     it replies exactly to a sound normal telegram of its node and length, with a sound opening
---     mirrored-exactly    it mirrors exactly a sound mirror telegram of its node
---     taken-exactly       it takes exactly a broadcast of its length that is not void
+--     replied_exactly     it replies exactly to a sound normal telegram of its node and length, with a sound opening
+--     mirrored_exactly    it mirrors exactly a sound mirror telegram of its node
+--     taken_exactly       it takes exactly a broadcast of its length that is not void
 use Prim.Native.Nat.{ℕ, ◌-◌}
 use mathlib.Core.Path.{◌≡◌, refl, sym, ap, ◌∙◌}
 use mathlib.Core.Logic.{◌↔◌}
