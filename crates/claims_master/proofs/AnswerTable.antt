@@ -1,7 +1,7 @@
 -- The answers of a build are those of document 01's lines, for every input. Assumes nothing.
---     build-exactly          a number is given exactly when its line holds and no earlier one does
---     exactly-build          and the number so told is the answer's
---     refused-build-keeps    a build that is refused reports 0 and writes nothing
+--     build_exactly          a number is given exactly when its line holds and no earlier one does
+--     exactly_build          and the number so told is the answer's
+--     refused_build_keeps    a build that is refused reports 0 and writes nothing
 use Prim.Native.Nat.{ℕ}
 use mathlib.Core.Path.{◌≡◌, refl, sym, ap, subst, ◌∙◌}
 use mathlib.Core.List.{List}

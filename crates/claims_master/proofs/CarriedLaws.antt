@@ -61,7 +61,7 @@ carried_of s id number index value c h v = go (task_asked s.pkw id number index 
           numbers = omega (arith, e.1.number_none);
           indices = i;
           heads = heads_of i;
-          fits = λ p. value_fits_lem (task_count s id) value (area_wide s ((task_count s id + s.pzd) * 2) c p) (λ q. omega (arith, e.1.value_None)) v;
+          fits = λ p. value_fits_lem (task_count s id) value (area_wide s ((task_count s id + s.pzd) * 2) c p) (λ q. omega (arith, e.1.value_none)) v;
         }
     go (inr a) =
         let i : index < 256 = omega (arith, a.indices) in
