@@ -7,7 +7,7 @@ use native.Mathlib.Omega.{arith}
 use lib.Dec.{lit<}
 use lib.IntN.{ℤ, pos, negsuc, ◌*ℤ◌, nat_abs, neg_ℤ}
 use lib.Signed.{mag}
-use lib.Ieee.{Float, fin, binary64, up, down, round, div, of_int}
+use lib.Ieee.{Float, fin, inf, nan, binary64, up, down, round, div, of_int}
 use lib.Ieee.Fits.{down_pos}
 use lib.Ieee.Exact.{HasValue}
 use lib.Ieee.Back.{round_whole}
@@ -47,6 +47,8 @@ div_is : (s : Bool) (n : ℕ) (x : Float) → HasValue x s n 1 → div binary64 
 unfolding div
 div_is s n (fin true m e) v = same true m e n v.1 ∙ ap (λ (b : Bool). round binary64 b n 16384) v.0
 div_is s n (fin false m e) v = same false m e n v.1 ∙ ap (λ (b : Bool). round binary64 b n 16384) v.0
+div_is s n (inf _) v = elim v [ ]
+div_is s n nan v = elim v [ ]
 
 pub whole_is : (z : ℤ) → of_int binary64 z ≡ round binary64 (is_minus z) (nat_abs z) 1
 unfolding of_int
