@@ -1,5 +1,5 @@
 -- What the functions of the view that holds its table promise: of the lent table t or the view v, the result r. It is what their source
--- states: `new-stated`, `show-stated`, `step-stated` (claims_view, HeldTable).
+-- states: `new_stated`, `show_stated`, `step_stated` (claims_view, HeldTable).
 --     NewPost κs t r s     a view of the table, at the start
 --     ShowPost κs v r s    what is shown
 --     StepPost κs v r s    a view of the same table, one record on
