@@ -1,6 +1,6 @@
 -- The answers of a reading are those of document 01's lines, for every input. Assumes nothing.
---     read-exactly    a number is given exactly when its line holds and no earlier one does
---     exactly-read    and the number so told is the answer's
+--     read_exactly    a number is given exactly when its line holds and no earlier one does
+--     exactly_read    and the number so told is the answer's
 use Prim.Native.Nat.{ℕ, ◌-◌, ◌%◌}
 use mathlib.Core.Path.{◌≡◌, refl, sym, ap, subst, ◌∙◌}
 use mathlib.Core.Bool.{Bool, true, false, not, ◌&&◌, ◌||◌, cond}
