@@ -50,6 +50,7 @@ fn word_at(t: &[u8], at: usize) -> u16
 }
 
 // The value of an area of n words: that of its last two words, or of its one.
+#[tactic(auto, using(crate::proofs::AreaLaws::value_one, crate::proofs::AreaLaws::value_last), unfolding(crate::specs::Read::value_at))]
 fn value_at(t: &[u8], n: u8) -> u32
     ensures { result ≡ value_at t.now 7 (n - 2) }
 {
@@ -64,6 +65,7 @@ fn value_at(t: &[u8], n: u8) -> u32
 }
 
 // The parameter area of n words, at the place of the first net byte. Four words that are all there are read by one test.
+#[tactic(auto, using(crate::proofs::AreaLaws::value_last), unfolding(crate::specs::Read::area_at))]
 pub fn read_area(t: &[u8], n: u8) -> Area
     ensures { result ≡ area_at t.now n }
 {
@@ -94,6 +96,7 @@ fn take_word(t: &[u8], at: usize, taken: bool, old: u16) -> u16
 }
 
 // The first pzd of four words, which stand behind an area of n words; the rest are the old ones.
+#[tactic(auto, unfolding(crate::specs::Read::process_at))]
 pub fn read_process(t: &[u8], n: u8, pzd: u8, old: Words) -> Words
     ensures { result ≡ process_at t.now n pzd old }
 {
