@@ -2,7 +2,7 @@
 -- W-201). Assumes nothing.
 --     handed-out-exactly    from the start, disarmed
 --     from-a-pause          from any state and page: what a pause and the items after it hand out
-use Prim.Native.Nat.{ℕ, ◌+◌}
+use Prim.Native.Nat.{ℕ}
 use mathlib.Core.Path.{◌≡◌, refl, ◌∙◌}
 use mathlib.Core.Bool.{Bool, true, false}
 use mathlib.Core.List.{List, [], ◌∷◌, ◌++◌}
