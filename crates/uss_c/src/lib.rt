@@ -180,12 +180,16 @@ pub fn uss_show_hertz(word: u16, reference: u32) -> HostFigure
     host_figure::show(Unit::Hertz, word, reference)
 }
 
+// No reference is looked at.
+#[tactic(auto, unfolding(figure::specs::Figures::figure_of))]
 pub fn uss_show_percent(word: u16) -> HostFigure
     ensures { (reference : ℕ) → result ≡ host_figure (figure_of Percent word reference) }
 {
     host_figure::show(Unit::Percent, word, 0)
 }
 
+// No reference is looked at.
+#[tactic(auto, unfolding(figure::specs::Figures::figure_of))]
 pub fn uss_show_raw(word: u16) -> HostFigure
     ensures { (reference : ℕ) → result ≡ host_figure (figure_of Raw word reference) }
 {
