@@ -40,6 +40,7 @@ pub enum Decoded {
 
 // The address byte by its bits: 0 to 4 node, 5 broadcast, 6 mirror, 7 must be 0; 5 and 6 together are refused. So under 32 it names a
 // node, under 64 all, under 96 a node's mirror, and else nobody.
+#[tactic(auto, unfolding(crate::specs::Address::address_of))]
 fn read_address(adr: u8) -> Address
     ensures { result ≡ address_of adr }
 {
