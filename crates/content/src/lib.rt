@@ -42,6 +42,7 @@ fn is_in_row(act: Act, reply: u8, id: u8) -> bool
 }
 
 // Whether a reply ID may follow the task.
+#[tactic(auto, using(task::proofs::TaskLaws::reply_small), unfolding(crate::specs::Content::known_id))]
 fn is_known(id: u8, reply_id: u8) -> bool
     ensures { result ≡ known_id id reply_id }
 {
@@ -54,6 +55,7 @@ fn is_known(id: u8, reply_id: u8) -> bool
 }
 
 // Whether the task is 0 and the area is not all 0.
+#[tactic(auto, unfolding(crate::specs::Content::all_zero))]
 fn is_filled(id: u8, area: Area) -> bool
     ensures { result ≡ (eqb id 0 && not (all_zero area)) }
 {
@@ -90,6 +92,7 @@ fn is_too_wide(reply_id: u8, value: u32) -> bool
 }
 
 // Whether an area of n words is not the reply to what was asked.
+#[tactic(auto, unfolding(crate::specs::Content::bad_reply, crate::specs::Content::bad_rows))]
 pub fn is_bad(n: u8, asked: Question, area: Area) -> bool
     ensures { result ≡ bad_reply n asked area }
 {
@@ -128,6 +131,7 @@ pub fn is_bad(n: u8, asked: Question, area: Area) -> bool
 }
 
 // What the reply to a task holds.
+#[tactic(auto, unfolding(crate::specs::Content::reply_content))]
 pub fn read_content(id: u8, area: Area) -> Content
     ensures { result ≡ reply_content id area }
 {

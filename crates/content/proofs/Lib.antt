@@ -1,2 +1,0 @@
--- Laws of replies to a task.
-pub mod ContentLaws
