@@ -26,6 +26,7 @@ struct Told {
 }
 
 // The slave call, with a list or without.
+#[tactic(auto, using(crate::proofs::LengthLaws::served_fits))]
 fn serve_either(
     setup: Setup,
     table: &[u8],
