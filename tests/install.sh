@@ -36,7 +36,7 @@ installed() {
 into_prefix() {
     rt_says 0
     installed "$prefix" > "$room/named" 2> /dev/null
-    [ "$(cat "$room/asked")" = 'lib uss_c_c --cpu x86-64' ] && diff <(sort "$room/named") <(find "$prefix" -type f | sort) \
+    [ "$(cat "$room/asked")" = 'lib --cpu x86-64' ] && diff <(sort "$room/named") <(find "$prefix" -type f | sort) \
         && cmp target/staticlib/libuss_c.a "$prefix/lib/libuss_c.a" && diff -r include "$prefix/include"
 }
 

@@ -94,15 +94,15 @@ def prove(root, kit, folder):
     os.makedirs(folder)
     kept, links = os.path.join(folder, "module.bc"), os.path.join(folder, "kit")
     linked_kit(kit, links, kept)
-    print(f"proving the library (rt lib {CRATE}): some minutes where nothing is proved yet", flush=True)
-    done = subprocess.run([os.path.join(links, "bin", "rt"), "lib", CRATE, "--cpu", "x86-64"], cwd=root,
+    print(f"proving the library (rt lib in crates/{CRATE}): some minutes where nothing is proved yet", flush=True)
+    done = subprocess.run([os.path.join(links, "bin", "rt"), "lib", "--cpu", "x86-64"], cwd=os.path.join(root, "crates", CRATE),
                           stdout=subprocess.PIPE, stderr=subprocess.STDOUT, text=True)
     shutil.rmtree(links)
     if done.returncode != 0 or not re.search(r"^logic=proved ", done.stdout, re.M):
         print(done.stdout, end="")
-        raise Refused(f"rt lib {CRATE}: not proved")
+        raise Refused(f"rt lib in crates/{CRATE}: not proved")
     if not os.path.exists(kept):
-        raise Refused(f"rt lib {CRATE}: its clang was given no module")
+        raise Refused(f"rt lib in crates/{CRATE}: its clang was given no module")
     shutil.copy(os.path.join(root, "crates", CRATE, "out", f"lib{CRATE}.a"), os.path.join(folder, f"lib{LIBRARY}.a"))
     kit.must("clang", ["--no-default-config", "-x", "ir", "-O0", "-Xclang", "-disable-llvm-passes", "-S", "-emit-llvm",
                        "module.bc", "-o", "module.ll"], folder)
