@@ -40,6 +40,7 @@ fn refuse(fault: ReadFault) -> Reading
 }
 
 // A normal telegram from a node, with n net bytes, as the reply to what was asked.
+#[tactic(auto, unfolding(crate::specs::Reply::read_normal))]
 fn read_normal(setup: Setup, asked: Question, received: &[u8], node: u8, n: usize) -> Reading
     ensures { result ≡ read_normal setup asked received.now node n }
 {
@@ -68,6 +69,7 @@ fn read_normal(setup: Setup, asked: Question, received: &[u8], node: u8, n: usiz
 }
 
 // Received bytes as the reply to what was asked.
+#[tactic(auto, unfolding(crate::specs::Reply::read_task))]
 fn read_task(setup: Setup, asked: Question, received: &[u8]) -> Reading
     ensures { result ≡ read_task setup asked received.now }
 {
@@ -87,6 +89,7 @@ fn read_task(setup: Setup, asked: Question, received: &[u8]) -> Reading
 }
 
 // The reading of received bytes as the reply to a request.
+#[tactic(auto, unfolding(crate::specs::Reply::read_of))]
 pub fn read(setup: Setup, request: Request, received: &[u8]) -> Reading
     ensures { result ≡ read_of setup request received.now }
 {
