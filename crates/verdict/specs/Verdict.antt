@@ -17,8 +17,7 @@ use Rattle.task.specs.declared.Act.{Act}
 use Rattle.task.specs.declared.Act.TheVariants.{Nothing, Read, Change, Count, Refuse}
 use Rattle.task.specs.declared.Width.{Width}
 use Rattle.task.specs.declared.Width.TheVariants.{Either, Word, Double}
-use Rattle.errors.specs.declared.ParameterError.{ParameterError}
-use Rattle.errors.specs.declared.ParameterError.TheVariants.{NoParameter, NotWritable, OutsideLimits, NoElement, NoArray, OtherWidth, NoRoom, NoTask}
+use Rattle.errors.specs.declared.ParameterError.TheVariants.{NotWritable, OutsideLimits, NoElement, NoArray, OtherWidth, NoRoom, NoTask}
 use Rattle.verdict.specs.declared.Verdict.{Verdict}
 use Rattle.verdict.specs.declared.Verdict.TheVariants.{Granted, Denied}
 

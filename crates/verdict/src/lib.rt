@@ -42,6 +42,7 @@ fn differs(width: Width, double: bool) -> bool
 }
 
 // The error of a read: 102.
+#[tactic(auto, unfolding(crate::specs::Verdict::verdict_of))]
 fn judge_read(n: u8, e: Entry) -> Verdict
     ensures { result ≡ verdict_of n (task_row Read Either false 0) e 0 0 }
 {
@@ -54,6 +55,7 @@ fn judge_read(n: u8, e: Entry) -> Verdict
 }
 
 // The first error of a change: 5, 102, 1, 2.
+#[tactic(auto, unfolding(crate::specs::Verdict::verdict_of))]
 fn judge_change(n: u8, width: Width, e: Entry, value: u32) -> Verdict
     ensures { result ≡ verdict_of n (task_row Change width false 0) e 0 value }
 {
@@ -76,6 +78,7 @@ fn judge_change(n: u8, width: Width, e: Entry, value: u32) -> Verdict
 
 // The first error that applies to a task with its index and the value that it carries, in an area of n words, on the parameter of a
 // record.
+#[tactic(auto, using(crate::proofs::VerdictLaws::verdict_read, crate::proofs::VerdictLaws::verdict_change, crate::proofs::VerdictLaws::verdict_none), unfolding(crate::specs::Verdict::verdict_of))]
 pub fn judge(n: u8, task: Task, e: Entry, index: u8, value: u32) -> Verdict
     ensures { result ≡ verdict_of n task e index value }
 {
@@ -105,6 +108,7 @@ pub fn judge(n: u8, task: Task, e: Entry, index: u8, value: u32) -> Verdict
 }
 
 // The element that a task means: that of its index where the index names one of an array, else 0, the one value where there is no array.
+#[tactic(auto, unfolding(crate::specs::Verdict::element_of))]
 pub fn pick_element(task: Task, e: Entry, index: u8) -> u8
     ensures { result ≡ element_of task e index }
 {
