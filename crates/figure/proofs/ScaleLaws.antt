@@ -1,5 +1,5 @@
 -- A word's product fits 32 bits, and the code's division of it is the definition's. Assumes nothing.
-use Prim.Native.Nat.{ℕ, zero, suc, ◌*◌, ◌^◌, ◌≤◌, ◌<◌}
+use Prim.Native.Nat.{ℕ, zero, suc, ◌*◌, ◌^◌, ◌≤◌}
 use mathlib.Core.Path.{◌≡◌, refl, ap, ◌∙◌}
 use mathlib.Core.Bool.{Bool, true, false}
 use native.Mathlib.Nat.{mul_assoc, mul_comm, mul-pos, le_trans, mul-le-mul_left, mul-le-mul_right}
@@ -7,7 +7,7 @@ use native.Mathlib.Omega.{arith}
 use lib.Dec.{lit<}
 use lib.IntN.{ℤ, pos, negsuc, ◌*ℤ◌, nat_abs, neg_ℤ}
 use lib.Signed.{mag}
-use lib.Ieee.{Float, fin, inf, nan, binary64, up, down, round, div, of_int}
+use lib.Ieee.{Float, fin, nan, inf, binary64, up, down, round, div, of_int}
 use lib.Ieee.Fits.{down_pos}
 use lib.Ieee.Exact.{HasValue}
 use lib.Ieee.Back.{round_whole}
@@ -47,8 +47,8 @@ div_is : (s : Bool) (n : ℕ) (x : Float) → HasValue x s n 1 → div binary64 
 unfolding div
 div_is s n (fin true m e) v = same true m e n v.1 ∙ ap (λ (b : Bool). round binary64 b n 16384) v.0
 div_is s n (fin false m e) v = same false m e n v.1 ∙ ap (λ (b : Bool). round binary64 b n 16384) v.0
-div_is s n (inf _) v = elim v [ ]
 div_is s n nan v = elim v [ ]
+div_is s n (inf _) v = elim v [ ]
 
 pub whole_is : (z : ℤ) → of_int binary64 z ≡ round binary64 (is_minus z) (nat_abs z) 1
 unfolding of_int

@@ -31,6 +31,7 @@ fn scale(word: u16, by: u32) -> f64
 }
 
 // Shows a word. Only hertz looks at the reference.
+#[tactic(auto, unfolding(crate::specs::Figures::figure_of))]
 pub fn show(unit: Unit, word: u16, reference: u32) -> Figure
     ensures { result ≡ figure_of unit word reference }
 {
