@@ -104,7 +104,7 @@ fn read_entry(t: &[u8], k: usize) -> Entry
 }
 
 // Whether a word's limit has an upper half.
-#[tactic(auto, using(crate::proofs::CheckLaws::low_upper, crate::proofs::CheckLaws::high_upper), unfolding(limits::specs::Limits::fits_in))]
+#[tactic(auto, unfolding(limits::specs::Limits::fits_in))]
 fn has_upper_half(e: Entry) -> bool
     ensures { result ≡ not (fits_in e.double e.minimum && fits_in e.double e.maximum) }
 {
@@ -118,7 +118,7 @@ fn has_upper_half(e: Entry) -> bool
 }
 
 // The first rule that a record breaks: `least` is the least number that may stand there, `place` the first of its places.
-#[tactic(auto, using(crate::proofs::CheckLaws::count_few, crate::proofs::CheckLaws::last_rule), unfolding(crate::specs::Checks::record_rule))]
+#[tactic(auto, unfolding(crate::specs::Checks::record_rule))]
 fn find_rule(e: Entry, least: u16, place: usize) -> Rule
     requires { place ≤ 1000000 }
     ensures { result ≡ record_rule least place e }
