@@ -75,7 +75,7 @@ prefix_of() {
 
 # instance NAME PREFIX LAW STATEMENT: the law is in the file of results, with that statement about the contract of that function
 instance() {
-    grep -qxF "pub $3 : $4" "$results" && grep -qE "^use Rattle·${1%%::*}\.proofs\.«?${1##*::}»?\.Reads as $2\$" "$results"
+    grep -qxF "pub $3 : $4" "$results" && grep -qE "^use Rattle\.${1%%::*}\.proofs\.«?${1##*::}»?\.Reads as $2\$" "$results"
 }
 
 # holds_a_reference NAME: the function is given or gives a struct that holds a reference, so that the prover makes no statement of its
@@ -89,15 +89,15 @@ held_instance() {
     local post="${1##*::}"
     post="${post^}Post"
     grep -qxF "pub $2 : OneResult $post" "$results" \
-        && grep -qE "^use Rattle·claims_${1%%::*}\.specs\.HeldTable\.\{.*\b$post\b.*\}\$" "$results" \
-        && grep -qE "^ *pub ${1##*::}-stated :" "crates/claims_${1%%::*}/proofs/HeldTable.antt"
+        && grep -qE "^use Rattle\.claims_${1%%::*}\.specs\.HeldTable\.\{.*\b$post\b.*\}\$" "$results" \
+        && grep -qE "^ *pub ${1##*::}_stated :" "crates/claims_${1%%::*}/proofs/HeldTable.antt"
 }
 
 # left PLACE: what is in the slice of that place among the parameters when the call ends
 left() {
     local path=''
-    for _ in $(seq "$1"); do path="$path .1"; done
-    echo "(λ κs s. now (s$path .0))"
+    for _ in $(seq "$1"); do path="$path.1"; done
+    echo "(λ κs s. s$path.0.now)"
 }
 
 rows=0
@@ -116,14 +116,14 @@ while IFS='|' read -r _ function _ _ edits laws _; do
     done
     [ "$count" -ge "$least" ] || wrong "$name: fewer must-fail edits than $least"
     prefix="$(prefix_of "$name")"
-    own="$prefix-one"
+    own="${prefix//-/_}_one"
     if holds_a_reference "$name"; then
         held_instance "$name" "$own" || wrong "$name: no instance $own of its contract"
     else
         instance "$name" "$prefix" "$own" "OneResult $prefix.Post" || wrong "$name: no instance $own of its contract"
     fi
     for slice in $lent; do
-        law="$prefix-$(tr '_' '-' <<<"${slice%%:*}")"
+        law="${prefix//-/_}_${slice%%:*}"
         own="$own $law"
         instance "$name" "$prefix" "$law" "OneExit $prefix.Post $(left "${slice##*:}")" || wrong "$name: no instance $law of its contract"
     done

@@ -39,7 +39,7 @@ use Rattle.opening.proofs.«open».Reads as opening-open
 use Rattle.table_check.proofs.check_table.Reads as table-check-check-table
 use Rattle.table_check.proofs.is_table.Reads as table-check-is-table
 use Rattle.places.proofs.fill.Reads as places-fill
-use Rattle.view.proofs.first.Reads as view_first
+use Rattle.view.proofs.first.Reads as view-first
 use Rattle.view.proofs.look.Reads as view-look
 use Rattle.view.proofs.next.Reads as view-next
 use Rattle.claims_view.specs.HeldTable.{NewPost, ShowPost, StepPost}
@@ -200,7 +200,7 @@ places_fill_one κs a r r' s s' p p' = equal_through p.0 p'.0
 pub places_fill_places : OneExit places-fill.Post (λ κs s. s.1.0.now)
 places_fill_places κs a r r' s s' p p' = equal_through p.1 p'.1
 
-pub view_first_one : OneResult view_first.Post
+pub view_first_one : OneResult view-first.Post
 view_first_one κs a r r' s s' = equal_through
 
 pub view_look_one : OneResult view-look.Post
