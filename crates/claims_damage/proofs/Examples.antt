@@ -1,10 +1,10 @@
 -- The examples of docs/DAMAGE.md: a telegram that passes, and flips that the frame check cannot see or must see. Assumes nothing.
---     sent-passes, examples-hold     the table of examples
---     unseen-read                    what is received and passes is read as a normal telegram
---     unseen-damage, unseen-flips    damage that is unseen
---     byte-damage, byte-wrong        damage of one byte
---     burst-damage, burst-flips      a burst of eight, lowest bit first
---     hit-damage, first-flipped      damage that hits the first byte
+--     sent_passes, examples_hold     the table of examples
+--     unseen_read_lem                what is received and passes is read as a normal telegram
+--     unseen_damage, unseen_flips    damage that is unseen
+--     byte_damage, byte_wrong        damage of one byte
+--     burst_damage, burst_flips      a burst of eight, lowest bit first
+--     hit_damage, first_flipped      damage that hits the first byte
 use mathlib.Core.Path.{◌≡◌, refl, sym, ap, ◌∙◌}
 use mathlib.Core.Bool.{Bool, true, ◌&&◌}
 use mathlib.Core.List.{List, [], ◌∷◌, map, zip_with}

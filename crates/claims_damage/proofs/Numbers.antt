@@ -1,7 +1,7 @@
 -- Which number damage is refused with; said by number, so that what a fault carries does not show here. Assumes nothing.
---     first-hit-11        11 where the first byte is hit
---     second-hit-12-13    12 or 13 where LGE is, and the first byte is not
---     rest-hit-14         14 where both are spared and the damage is seen
+--     first_hit_11        11 where the first byte is hit
+--     second_hit_12_13    12 or 13 where LGE is, and the first byte is not
+--     rest_hit_14         14 where both are spared and the damage is seen
 use mathlib.Core.Path.{◌≡◌, refl, sym, ap, ◌∙◌}
 use mathlib.Core.Logic.{◌⊎◌, inl, inr}
 use mathlib.Core.Bool.{Bool, true, false, ◌||◌}

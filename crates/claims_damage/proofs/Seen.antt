@@ -1,11 +1,11 @@
 -- Which damage the frame check sees: the exact line, and what follows from it. Assumes nothing.
 --     exact              damage passes the frame check exactly where it is unseen
---     odd-seen           a position flipped an odd number of times: refused
---     one-byte-seen      one wrong byte: refused
---     burst-seen         a burst within eight consecutive data bits: refused, whichever bit of a byte goes first
---     first-hit-seen     the first byte hit: refused
---     second-hit-seen    LGE hit: refused
---     long-promise       16 bytes received and LGE reading 254: 13
+--     odd_seen           a position flipped an odd number of times: refused
+--     one_byte_seen      one wrong byte: refused
+--     burst_seen         a burst within eight consecutive data bits: refused, whichever bit of a byte goes first
+--     first_hit_seen     the first byte hit: refused
+--     second_hit_seen    LGE hit: refused
+--     long_promise       16 bytes received and LGE reading 254: 13
 use mathlib.Core.Path.{◌≡◌, refl, sym, ap, ◌∙◌}
 use mathlib.Core.List.{List}
 use mathlib.Core.Logic.{◌↔◌}

@@ -1,3 +1,3 @@
--- Damage to a telegram, in the words of the third demand.
+-- Damage to a telegram, and examples of it.
 pub mod Damage
 pub mod Examples
