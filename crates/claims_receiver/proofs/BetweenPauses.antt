@@ -1,8 +1,8 @@
 -- The bytes between two pauses (document 02, W-201): a host that takes a telegram only where a pause stands right behind it. It has the
 -- byte count from both sides, from LGE and from the pauses, so that the exact line holds for flips on the wire too. Assumes nothing.
---     run-heard-alone     what is handed out of them is said by them alone, whatever came before and comes after
---     between-pauses      they are handed out, all of them, exactly where the tests 10 to 13 find nothing in them
---     line-on-the-wire    and flips of them on the wire, LGE among them, pass the receiver and the frame check exactly where they are unseen
+--     run_heard_alone     what is handed out of them is said by them alone, whatever came before and comes after
+--     between_pauses      they are handed out, all of them, exactly where the tests 10 to 13 find nothing in them
+--     line_on_the_wire    and flips of them on the wire, LGE among them, pass the receiver and the frame check exactly where they are unseen
 use Prim.Native.Nat.{ℕ, suc, ◌+◌, ◌≤◌}
 use mathlib.Core.Path.{◌≡◌, refl, sym, ap, ◌∙◌}
 use mathlib.Core.Logic.{◌↔◌}

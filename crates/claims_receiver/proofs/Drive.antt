@@ -1,9 +1,9 @@
--- A slave behind the receiver (document 02, W-201): demands 2 and 3 read on the telegrams handed out. Assumes nothing.
---     drive-answers         replies and state are those of the slave on the telegrams that stand in the items, in any cuts
---     drive-striking-out    striking out refused telegrams, all or any of them, alters no other reply and no final state
---     drive-never-cut       no answer is one of 10 to 13
---     drive-line            the exact line, for flips in a telegram already handed out, in any state that the drive came to
---     fed-served            each way of feeding is a drive
+-- A slave behind the receiver (document 02, W-201): what holds of a slave alone, read on the telegrams handed out. Assumes nothing.
+--     drive_answers         replies and state are those of the slave on the telegrams that stand in the items, in any cuts
+--     drive_striking_out    striking out refused telegrams, all or any of them, alters no other reply and no final state
+--     drive_never_cut       no answer is one of 10 to 13
+--     drive_line            the exact line, for flips in a telegram already handed out, in any state that the drive came to
+--     fed_served            each way of feeding is a drive
 use Prim.Native.Nat.{ℕ, suc, ◌+◌}
 use mathlib.Core.Path.{◌≡◌, refl, sym, ap, ◌∙◌}
 use mathlib.Core.Logic.{◌↔◌}

@@ -1,7 +1,7 @@
 -- What is handed out is exactly what stands in the items: one telegram for each pause that a whole one directly follows (document 02,
 -- W-201). Assumes nothing.
---     handed-out-exactly    from the start, disarmed
---     from-a-pause          from any state and page: what a pause and the items after it hand out
+--     handed_out_exactly    from the start, disarmed
+--     from_a_pause          from any state and page: what a pause and the items after it hand out
 use Prim.Native.Nat.{ℕ}
 use mathlib.Core.Path.{◌≡◌, refl, ◌∙◌}
 use mathlib.Core.Bool.{Bool, true, false}

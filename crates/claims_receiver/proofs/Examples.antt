@@ -1,7 +1,7 @@
 -- The known items, computed. Assumes nothing.
 --     known             what the receiver hands out of them, step by step, and its state at the end
---     known-in-items    what stands in them
---     lge-hit           a flip of LGE on the wire: what is handed out, and what the frame check finds in it
+--     known_in_items    what stands in them
+--     lge_hit_lem       a flip of LGE on the wire: what is handed out, and what the frame check finds in it
 use mathlib.Core.Path.{◌≡◌, refl}
 use Prim.Native.Nat.{ℕ}
 use mathlib.Core.List.{List, [], ◌∷◌, map}

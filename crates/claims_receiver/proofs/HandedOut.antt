@@ -1,10 +1,10 @@
 -- What is handed out (document 02, W-201). Assumes nothing.
---     items-whole, handed-whole                it is 02, an LGE of 3 to 254, and LGE + 2 bytes in all
---     items-after-pause, handed-after-pause    these bytes came directly after a pause
---     handed-never-cut                         the frame check refuses it with 14, or not at all; so never with 10, 11, 12 or 13
--- The first of each pair is of the telegrams that stand in the items, so of all that come behind a pause, from any state (`from-a-pause`;
+--     items_whole, handed_whole                it is 02, an LGE of 3 to 254, and LGE + 2 bytes in all
+--     items_after_pause, handed_after_pause    these bytes came directly after a pause
+--     handed_never_cut                         the frame check refuses it with 14, or not at all; so never with 10, 11, 12 or 13
+-- The first of each pair is of the telegrams that stand in the items, so of all that come behind a pause, from any state (`from_a_pause`;
 -- Exactly); the second of those that a receiver hands out from the start on. Each of them once and in order: that is the equation of
--- lists in `handed-out-exactly` (Exactly).
+-- lists in `handed_out_exactly` (Exactly).
 use Prim.Native.Nat.{ℕ, zero, suc, ◌+◌, ◌<◌}
 use mathlib.Core.Path.{◌≡◌, refl, sym, ap, ◌∙◌}
 use mathlib.Core.Logic.{◌⊎◌, inl, inr}

@@ -1,7 +1,7 @@
 -- After any noise, a pause followed by a whole telegram hands out that telegram by its last byte, and not before (document 02, W-201).
 -- Assumes nothing.
---     after-any-noise    the telegram is handed out, the receiver is disarmed, and the page starts with it
---     not-before         as long as its last byte is not there, nothing is
+--     after_any_noise    the telegram is handed out, the receiver is disarmed, and the page starts with it
+--     not_before         as long as its last byte is not there, nothing is
 use Prim.Native.Nat.{ℕ, zero, suc, ◌+◌, ◌<◌, ◌≤◌}
 use mathlib.Core.Path.{◌≡◌, refl, sym, ap, ◌∙◌}
 use mathlib.Core.Bool.{true}

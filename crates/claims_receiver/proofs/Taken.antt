@@ -1,7 +1,7 @@
 -- What a host reckons with after any call, from any state, items and page. Assumes nothing.
---     taken-most     no more items are taken than were lent
---     taken-all      without a telegram all are taken
---     taken-some     of one item or more, at least one is taken: a host that feeds the rest again comes to an end
+--     taken_most     no more items are taken than were lent
+--     taken_all      without a telegram all are taken
+--     taken_some     of one item or more, at least one is taken: a host that feeds the rest again comes to an end
 --     length_most    the telegram lies inside the page
 --     pause_alone    a single pause: one item taken, no telegram, armed, and the page as it was; so `uss_pause` is a call like any other
 use Prim.Native.Nat.{ℕ, ◌+◌, ◌<◌, ◌≤◌}
