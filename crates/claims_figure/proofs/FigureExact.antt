@@ -2,13 +2,13 @@
 -- and 4000 by name. Assumes nothing.
 use Prim.Native.Nat.{ℕ, zero, suc, ◌+◌, ◌-◌, ◌*◌, ◌/◌, ◌^◌, ◌≤◌, ◌<◌}
 use mathlib.Core.Path.{◌≡◌, refl, sym, ap, subst, ◌∙◌}
-use mathlib.Core.Bool.{Bool, true, false, cond, ◌&&◌}
+use mathlib.Core.Bool.{Bool, true, false, cond}
 use native.Mathlib.Nat.{mul_assoc, mul_comm, mul_right_comm, mul-one, one-mul, zero-mul, lt_irrefl, lt_of_lt_of_le}
 use native.Mathlib.Omega.{arith}
 use lib.Dec.{T, leb, lit<, lit≤}
 use lib.Pow.{shl_lt}
-use lib.IntN.{ℤ, pos, negsuc, nat_abs, neg_ℤ}
-use lib.Ieee.{Float, fin, binary64, up, down, size, round, of_int, fits, hid, top, of_bits, to_bits}
+use lib.IntN.{ℤ, pos, nat_abs, neg_ℤ}
+use lib.Ieee.{Float, fin, inf, nan, binary64, up, down, size, round, of_int, fits, hid, top, of_bits, to_bits}
 use lib.Ieee.Bits.{of_bits-to_bits}
 use lib.Ieee.Exact.{HasValue, round_exact}
 use lib.Ieee.Fits.{down_pos, round-fits}
@@ -46,6 +46,8 @@ bits_are (fin t m e) s n v =
     div_same (m * up e * 2 ^ 1074) (down e) (n * 2 ^ 1074) 16384 (down_pos e) (lit< tt)
     (mul_right_comm (m * up e) (2 ^ 1074) 16384 ∙ ap (λ (q : ℕ). q * 2 ^ 1074) v.1 ∙ mul_right_comm n (down e) (2 ^ 1074)) in
     ap (λ (b : Bool). bits_of b (m * up e * 2 ^ 1074 / down e)) v.0 ∙ ap (bits_of s) same
+bits_are (inf _) s n v = elim v [ ]
+bits_are nan s n v = elim v [ ]
 
 pub scaled_only : (w by : ℕ) → by ≤ 650 → (x : Float) → T (fits binary64 x) → Times16384 x (product_of w by) → x ≡ over16384 (product_of w by)
 unfolding over16384
@@ -67,7 +69,7 @@ figure_shows U.Hertz w ref = go (reference_ok ref) refl
 figure_shows U.Percent w ref = scaled_exact w 100 (lit≤ tt)
 figure_shows U.Raw w ref = refl
 
--- ---- the words that the request names, over the multiplier
+-- ---- words by name, over the multiplier
 
 neg_minus : (n : ℕ) → 0 < n → is_minus (neg_ℤ (pos n)) ≡ true
 neg_minus zero h = absurd (lt_irrefl 0 h)
