@@ -1,7 +1,7 @@
 -- Laws of what a task asks. Assumes nothing.
 use mathlib.Core.Path.{◌≡◌, refl}
 use mathlib.Core.Bool.{Bool, true, false}
-use Prim.Native.Nat.{ℕ, ◌/◌, ◌≤◌, ◌<◌}
+use Prim.Native.Nat.{ℕ, ◌≤◌, ◌<◌}
 use native.Mathlib.Omega.{arith}
 use Rattle.area.specs.declared.Area.{Area}
 use Rattle.entry.specs.declared.Entry.{Entry}
@@ -13,7 +13,6 @@ use Rattle.errors.specs.declared.ParameterError.{ParameterError}
 use Rattle.verdict.specs.declared.Verdict.{Verdict}
 use Rattle.verdict.specs.declared.Verdict.TheVariants.{Granted, Denied}
 use Rattle.task.specs.Task.{read_reply}
-use Rattle.task.proofs.TaskLaws.{reply_small}
 use Rattle.verdict.proofs.VerdictLaws.{granted_element, granted_inside}
 use Rattle.deed.specs.declared.Deed.TheVariants.{Reply}
 use Rattle.deed.specs.Deed.{error_area, task_in, index_in, value_in, element_in, verdict_in, act_deed, deed_on, DeedFits}

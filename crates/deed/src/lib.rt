@@ -63,6 +63,7 @@ fn pick_reply_id(reply: u8, double: bool) -> u8
 }
 
 // Task 9's answer: the number of elements, 1 where there is no array.
+#[tactic(auto, unfolding(entry::specs::Fields::count_of))]
 fn count_elements(e: Entry) -> u32
     ensures { result ≡ count_of e }
 {
@@ -74,6 +75,7 @@ fn count_elements(e: Entry) -> u32
 }
 
 // What the task of an area asks where no error applies: `task`, `element` and `value` are the area's.
+#[tactic(auto, using(task::proofs::TaskLaws::reply_small, crate::proofs::DeedLaws::read_reply_le))]
 fn plan_act(task: Task, area: Area, e: Entry, element: u8, value: u32) -> Deed
     requires { (task ≡ task_in area) × (element ≡ element_in area e) × (value ≡ value_in area) }
     ensures { result ≡ act_deed task.act area e }
@@ -99,6 +101,7 @@ fn plan_act(task: Task, area: Area, e: Entry, element: u8, value: u32) -> Deed
 }
 
 // What the task in an area of n words asks of the parameter of a record: the first error that applies, or the act.
+#[tactic(auto, using(crate::proofs::DeedLaws::deed_denied, crate::proofs::DeedLaws::deed_granted))]
 pub fn plan(n: u8, area: Area, e: Entry) -> Deed
     ensures { result ≡ deed_on n area e }
 {
