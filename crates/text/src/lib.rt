@@ -7,6 +7,7 @@ ghost use Rattle.text.specs.Digits.{digits};
 ghost use Rattle.store.specs.Placed.{put_out};
 
 // How many decimal digits a number has.
+#[tactic(auto, using(crate::proofs::DigitsLaws::length_small, crate::proofs::DigitsLaws::length_more))]
 pub fn count_digits(n: u32) -> usize
     ensures { result ≡ length (digits n) }
 {
@@ -20,6 +21,7 @@ pub fn count_digits(n: u32) -> usize
 }
 
 // Writes the digits of n at `at`, where there is room for them: those of its tenth first.
+#[tactic(auto, using(crate::proofs::DigitsLaws::digits_small, crate::proofs::DigitsLaws::digits_more, crate::proofs::DigitsLaws::length_more, crate::proofs::DigitsLaws::length_tenth, crate::proofs::DigitsLaws::some_digit, store::proofs::StoreLaws::sets_append))]
 fn write_digits(out: &mut [u8], at: usize, n: u32) -> usize
     requires { at + length (digits n) ≤ length out.old }
     ensures value { result ≡ at + length (digits n) }
@@ -35,6 +37,7 @@ fn write_digits(out: &mut [u8], at: usize, n: u32) -> usize
 }
 
 // Writes n in decimal at `at` and returns the place after it; where it does not fit, writes nothing and returns `at`.
+#[tactic(auto, using(store::proofs::StoreLaws::put_fits, store::proofs::StoreLaws::put_not))]
 pub fn put_number(out: &mut [u8], at: usize, n: u32) -> usize
     ensures value { result ≡ (put_out out.old at (digits n)).place }
     ensures out_after { out.new ≡ (put_out out.old at (digits n)).bytes }
