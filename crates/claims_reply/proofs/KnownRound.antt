@@ -1,5 +1,5 @@
 -- The hypotheses of the round hold together: a table with the parameter of K2 passes the opening check, and the replies K3 and K4
--- are read (document 01, Telegrams to prove). That K2 is built and that K3 and K4 answer it is `known-holds` of claims_known.
+-- are read (document 01, Telegrams to prove). That K2 is built and that K3 and K4 answer it is `known_holds` of claims_known.
 -- Assumes nothing.
 use mathlib.Core.Path.{◌≡◌, refl}
 use mathlib.Core.List.{List, map}

@@ -1,8 +1,8 @@
 -- What a slave may reply to a task, whatever the task: which reply IDs, the bits that must be 0, and a word but under the ID of a
 -- double. Assumes nothing.
 --     MayReply n p    p may be the reply's area of n words
---     id-replies      a reply ID by its width, count-replies, error-replies, idle-replies
---     deed-replies    what a task asks of a record is such a reply
+--     id_replies      a reply ID by its width, count_replies, error_replies, idle_replies
+--     deed_replies    what a task asks of a record is such a reply
 use mathlib.Core.Path.{◌≡◌, refl, sym, ap, ◌∙◌}
 use mathlib.Core.Logic.{inl, inr}
 use mathlib.Core.Bool.{Bool, true, false, ◌&&◌, cond, false≢true}
