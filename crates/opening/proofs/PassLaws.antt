@@ -108,6 +108,14 @@ module _ (least place : ℕ) where
   unfolding counts_of runs_ok
   pass_end vs = rw (rule_end, add-zero, and-true (eqb place (length vs))) (regroup_two (leb least 32000) (leb place 4096) (eqb place (length vs)))
 
+-- a record that was read, as an entry; its number is in its head
+abbrev pub entry_in : Record → Entry
+entry_in r = entry_of r.head r.minimum r.maximum
+
+pub number_in : (r : Record) → (entry_in r).number ≡ r.head / 131072
+unfolding entry_of
+number_in r = refl
+
 -- all records of a table of n whole ones
 pub rule_all : (t : List ℕ) (n : ℕ) → length t ≡ 12 * n → n ≤ 512 → table_ok t ≡ ruled_from (entries_from t n 0) 0 0
 unfolding entries
