@@ -8,6 +8,7 @@ ghost use Rattle.places.specs.Fill.{filling_of, filled_by};
 use slave_answers::OpeningFault;
 
 // Each record's first place, as a 16-bit number: 0, or 21, then 25 for the length, and nothing written.
+#[tactic(auto, using(crate::proofs::FillLaws::fill_table, crate::proofs::FillLaws::fill_length, crate::proofs::FillLaws::fill_passed, crate::proofs::FillLaws::place_small, entry::proofs::CountLaws::count_le))]
 pub fn fill(table: &[u8], places: &mut [u16]) -> u32
     ensures value { result ≡ opened_number (filling_of table.now (length places.old)) }
     ensures places_after { places.new ≡ filled_by (filling_of table.now (length places.old)) table.now places.old }
