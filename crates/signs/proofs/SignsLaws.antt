@@ -8,7 +8,7 @@ use native.Mathlib.Nat.{zero-add}
 use native.Mathlib.Omega.{arith}
 use borrow.Author.Tests.{lt-ltb, le-ltb, ltb-true, ltb-false}
 use lib.Dec.{ltb, lit<}
-use lib.Bits.{bit_xor, xor_block, xor_zero_r}
+use lib.Bits.{bit_xor, xor_block, xor_zero_r, xor_lt}
 use lib.IntN.{ℤ, pos, negsuc, ◌-ℤ◌, nat_abs}
 use lib.Signed.{mag, le_z, nat_abs-le}
 use mir.Syntax.{Width, w16, w32}
@@ -73,6 +73,9 @@ module _ (x : ℕ) (h : x < 65536) where
 
   word_fits : SFits w32 (to_z w16 x)
   word_fits = record { sfits = omega (arith, word_mag) }
+
+  pub flip_word_fits : SFits w32 (pos (bit_xor x 32768))
+  flip_word_fits = record { sfits = omega (arith, xor_lt 16 x 32768 h (lit< tt)) }
 
   pub word_fits_less : SFits w32 (to_z w32 (bit_xor x 32768) -ℤ pos 32768)
   word_fits_less = rw word_is word_fits
