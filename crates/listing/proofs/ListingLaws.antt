@@ -1,14 +1,31 @@
--- The listing by what the bytes decode to. Assumes nothing.
-use mathlib.Core.Path.{◌≡◌, refl, ap}
+-- Pieces written one after another, and the listing by what the bytes decode to. Assumes nothing.
+use mathlib.Core.Path.{◌≡◌, refl, ap, ◌∙◌}
 use mathlib.Core.Bool.{true}
-use mathlib.Core.List.{List}
+use mathlib.Core.List.{List, [], ◌++◌}
 use Prim.Native.Nat.{ℕ, ◌≤◌}
 use lib.ListN.{length}
-use Rattle.store.specs.Placed.{joined}
+use Rattle.store.specs.Placed.{put_all, joined}
+use Rattle.store.proofs.StoreLaws.{all_append}
 use Rattle.address.specs.Address.{decoded_of}
 use Rattle.address.specs.declared.Decoded.{Decoded}
 use Rattle.address.proofs.DecodedLaws.{is_telegram, telegram_framed}
 use Rattle.listing.specs.Listing.{pieces_of, listing}
+
+-- `out` is l with the pieces xss written from a place on, and `at` is the place behind them
+pub record Wrote (l : List ℕ) (from : ℕ) (xss : List (List ℕ)) (out : List ℕ) (at : ℕ) : Type 0 where
+  pub place : at ≡ (put_all l from xss).place
+  pub bytes : out ≡ (put_all l from xss).bytes
+
+pub none : (l : List ℕ) (from : ℕ) → Wrote l from [] l from
+none l from = record { place = refl; bytes = refl }
+
+pub more : {l : List ℕ} {from : ℕ} {xss : List (List ℕ)} {out : List ℕ} {at : ℕ} → Wrote l from xss out at → (yss : List (List ℕ)) {out' : List ℕ} {at' : ℕ} → at' ≡ (put_all out at yss).place → out' ≡ (put_all out at yss).bytes → Wrote l from (xss ++ yss) out' at'
+more {l} {from} {xss} w yss p e = record {
+  place = p ∙ rw (w.place, w.bytes, all_append l from xss yss);
+  bytes = e ∙ rw (w.place, w.bytes, all_append l from xss yss);
+}
+
+-- ---- by what the bytes decode to
 
 pub listing_by : (t : List ℕ) (d : Decoded) → decoded_of t ≡ d → listing t ≡ joined (pieces_of t d)
 unfolding listing

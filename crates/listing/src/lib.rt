@@ -94,6 +94,7 @@ fn list_decoded(t: &[u8], out: &mut [u8]) -> usize
 
 // Writes the listing of the first 300 bytes to the start of `out` and returns its length; where it does not fit,
 // writes nothing and returns 0.
+#[tactic(auto, unfolding(crate::specs::Listing::listed_of))]
 pub fn list(received: &[u8], out: &mut [u8]) -> u32
     ensures value { result ≡ (listed_of received.now out.old).place }
     ensures out_after { out.new ≡ (listed_of received.now out.old).bytes }

@@ -4,7 +4,7 @@ use mathlib.Core.Path.{◌≡◌, refl, sym, ap, ◌∙◌}
 use mathlib.Core.List.{List, [], ◌∷◌}
 use mathlib.Core.Bool.{Bool, true, false, not, cond, ◌&&◌}
 use native.Mathlib.Omega.{arith}
-use borrow.Author.Tests.{lt-ltb, le-ltb, eq-eqb, ne_eqb, ltb-false, eqb-true, not-false}
+use borrow.Author.Tests.{lt-ltb, le-ltb, eq-eqb, ne_eqb, ltb-true, ltb-false, eqb-true, not-false}
 use lib.Dec.{ltb, eqb, lit≤}
 use lib.ListN.{length, get_or}
 use Rattle.rows.specs.Rows.{first_of}
@@ -12,6 +12,7 @@ use Rattle.rows.proofs.RowsLaws.{row_passed}
 use Rattle.entry.specs.declared.Entry.{Entry}
 use Rattle.entry.specs.Fields.{count_of}
 use Rattle.limits.specs.Limits.{fits_in, at_most, is_within}
+use Rattle.limits.proofs.FitLaws.{fits_word, word_unfit}
 use Rattle.table.specs.Records.{entries_from, entries, counts_of}
 use Rattle.table.proofs.RecordsLaws.{count_at_le}
 use Rattle.table_check.specs.declared.Rule.{Rule}
@@ -28,6 +29,26 @@ count_few e m o h = go (eqb e.elements 0) refl
     go : (b : Bool) → eqb e.elements 0 ≡ b → cond b 1 e.elements ≤ m
     go true q = o
     go false q = h
+
+-- a word's limit with an upper half
+module _ (e : Entry) (word : e.double ≡ false) where
+  pub low_upper : 65535 < e.minimum → true ≡ not (fits_in e.double e.minimum && fits_in e.double e.maximum)
+  low_upper h = rw (word_unfit e.double e.minimum word h)
+
+  pub high_upper : e.minimum ≤ 65535 → ltb 65535 e.maximum ≡ not (fits_in e.double e.minimum && fits_in e.double e.maximum)
+  high_upper h = rw (fits_word e.double e.minimum word h) (go (ltb 65535 e.maximum) refl)
+    where
+      go : (b : Bool) → ltb 65535 e.maximum ≡ b → b ≡ not (fits_in e.double e.maximum)
+      go true q = rw (word_unfit e.double e.maximum word (ltb-true 65535 e.maximum q))
+      go false q = rw (fits_word e.double e.maximum word (ltb-false 65535 e.maximum q))
+
+-- of a record that keeps all other rules
+pub last_rule : (least place : ℕ) (e : Entry) → least ≤ e.number → e.number ≤ 31999 → e.elements ≤ 254 → e.spare ≡ 0
+    → not (fits_in e.double e.minimum && fits_in e.double e.maximum) ≡ false → at_most e.double e.signed e.minimum e.maximum ≡ true
+    → record_rule least place e ≡ cond (ltb 4096 (place + count_of e)) ManyPlaces Kept
+unfolding record_rule
+last_rule least place e a b c d f g =
+    rw (le-ltb e.number least a, le-ltb 31999 e.number b, le-ltb 254 e.elements c, eq-eqb e.spare 0 d, f, g)
 
 -- the facts of a record that keeps its rules, where `least` is the least number that may stand there and `place` its first place
 pub record Keeps (least place : ℕ) (e : Entry) : Type 0 where
@@ -150,6 +171,13 @@ unfolding runs_check
 runs_end vs k place = refl
 
 -- ---- table and values
+
+pub end_most : (n : ℕ) → end_of n ≤ 512
+end_most n = go (ltb 512 n) refl
+  where
+    go : (b : Bool) → ltb 512 n ≡ b → cond b 512 n ≤ 512
+    go true q = lit≤ tt
+    go false q = ltb-false 512 n q
 
 pub counts_most : (t : List ℕ) (n j : ℕ) → counts_of (entries_from t n j) ≤ 255 * n
 unfolding counts_of entries_from

@@ -1,2 +1,3 @@
--- Laws of a view.
+-- Laws of a view and of its cursor.
 pub mod ViewLaws
+pub mod CursorLaws

@@ -21,15 +21,11 @@ overflow_cast-result c =
       placed_most (take 300 t) c.args.out.now (bytes_take 300 t (λ i. (c.type_inv.received i).fits)) (omega (arith, length-take-le 300 t (omega arith))),
     )
 
-pub returns-then-received-gt300 : goal.returns-then-received-gt300
-unfolding listed_of
-returns-then-received-gt300 c = record { value = c.list_decoded.ensures.value; out_after = c.list_decoded.ensures.out_after }
-
 pub overflow_cast-result-2 : goal.overflow_cast-result-2
 overflow_cast-result-2 c =
-    omega (arith, c.list_decoded-2.ensures.value, placed_most c.args.received.now c.args.out.now (λ i. (c.type_inv.received i).fits) c.if-received-gt300.false)
+    omega (arith, c.list_decoded-2.ensures.value, placed_most c.args.received.now c.args.out.now (λ i. (c.type_inv.received i).fits) (omega arith))
 
 pub returns : goal.returns
 unfolding listed_of
 returns c =
-    rw (take_all 300 c.args.received.now c.if-received-gt300.false) (record { value = c.list_decoded-2.ensures.value; out_after = c.list_decoded-2.ensures.out_after })
+    rw (take_all 300 c.args.received.now (omega arith)) (record { value = c.list_decoded-2.ensures.value; out_after = c.list_decoded-2.ensures.out_after })

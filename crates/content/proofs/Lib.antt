@@ -1,0 +1,2 @@
+-- Laws of replies to a task.
+pub mod ContentLaws
