@@ -1,9 +1,9 @@
-# Sourced by demo/run and telegram-list: has `rt` prove what they are made of before they run, and tells on standard error how far
-# it is. At each start `rt` is asked; what has not changed since it was proved is not proved again, and nothing is told.
+# Sourced by demo/run, telegram-list and lib/prove: has `rt` prove what they are made of before they run, and tells on standard error how
+# far it is. At each start `rt` is asked; what has not changed since it was proved is not proved again, and nothing is told.
 # The caller sets `root`, the repository's folder, and `me`, its own name as it is typed. What the prover itself said at the last
 # start that proved or refused something is kept in a log under target/first-run.
 
-# the 42 crates of demo/run take some three minutes on two cores, the 9 of telegram-list 39 s (README.md)
+# the 43 crates of demo/run take some three minutes on two cores, the 9 of telegram-list 39 s (README.md)
 seconds_a_crate=5
 
 # tell TEXT
@@ -31,24 +31,30 @@ crates_below() {
         colon && (name in wants) { print name; want(substr($0, colon + 1)) }' | tac
 }
 
-# changed NAME: whether the crate is not proved, or a file of it is newer than that; rt then looks at what the file has
+# sums NAME..: in sum[NAME], of each crate, given lowest first, one number for its files, what it names, and all that it stands on
+declare -A sum=()
+sums() {
+    local name below line
+    for name; do
+        line="$(sed -nE "s/^$name( staticlib)?:/\\1/p" "$root/crates.txt")"
+        sum[$name]="$({
+            echo "$line"
+            for below in $line; do echo "$below ${sum[$below]:-}"; done
+            cd "$root/crates/$name" && find . \( -name out -o -name must-fail \) -prune -o -type f -print0 | LC_ALL=C sort -z | xargs -0 sha256sum
+        } | sha256sum)"
+    done
+}
+
+# changed NAME: whether the crate, with all that it stands on, is not what was proved; after sums
 changed() {
-    local stamp="$root/target/stamp/$1"
-    [ ! -f "$stamp" ] || [ -n "$(find "$root/crates/$1" \( -name must-fail -o -name out \) -prune -o -type f -newer "$stamp" -print -quit)" ]
+    [ "$(cat "$root/target/stamp/$1" 2> /dev/null)" != "${sum[$1]}" ]
 }
 
 # to_prove NAME..: how many of the crates, given lowest first, have changed or stand on one that has
 to_prove() {
-    local name below count=0 open=' '
-    for name; do
-        for below in $name $(sed -n "s/^$name\( staticlib\)\?://p" "$root/crates.txt"); do
-            if [ "${open#* "$below" }" != "$open" ] || { [ "$below" = "$name" ] && changed "$name"; }; then
-                open="$open$name "
-                count=$((count + 1))
-                break
-            fi
-        done
-    done
+    local name count=0
+    sums "$@"
+    for name; do ! changed "$name" || count=$((count + 1)); done
     echo "$count"
 }
 

@@ -79,11 +79,13 @@ rt_says() {
     printf '%s\n' "$@" > "$room/stand-in/words"
 }
 
-# stamped CRATE..: these are proved, and so later than all their files
-stamped() {
-    local crate
-    for crate; do touch -d '+1 hour' "$house/target/stamp/$crate"; done
-}
+# stamped CRATE..: these are proved as they stand
+stamped() (
+    root="$house"
+    . "$house/lib/proving.sh"
+    sums low mid side above uss_c_c telegram_list
+    for crate; do echo "${sum[$crate]}" > "$house/target/stamp/$crate"; done
+)
 
 listed='telegram listing 1
 bytes 0 refused 10
@@ -99,15 +101,16 @@ $listed" "$(run "$house/telegram-list")"
 say 'the log has the prover'\''s words' "$(grep -v '^rt: ok' "$room/stand-in/words")" "$(cat "$house/target/first-run/telegram-list.log")"
 
 stamped low mid telegram_list
-touch -d '+2 hours' "$house/crates/mid/src/lib.rt"
+echo '// more' > "$house/crates/mid/src/lib.rt"
 rt_says kit-1 0 'rt: low proved (unchanged since it was last proved)' 'rt: mid proved (2 s)' 'rt: telegram_list proved (3 s)' 'rt: ok, 3 crates proved'
 say 'telegram-list, one crate changed' "telegram-list: crates to be proved first: 2. On two cores that takes up to a minute, this once.
 telegram-list: crate 2 of 3: mid proved (2 s)
 telegram-list: crate 3 of 3: telegram_list proved (3 s)
 $listed" "$(run "$house/telegram-list")"
 
-touch -d '-1 hour' "$house/crates/mid/src/lib.rt"
-touch -d '+2 hours' "$house/crates/mid/must-fail/slip.edit" "$house/crates/side/src/lib.rt"
+: > "$house/crates/mid/src/lib.rt"
+echo '# more' > "$house/crates/mid/must-fail/slip.edit"
+echo '// more' > "$house/crates/side/src/lib.rt"
 unchanged=(low mid telegram_list)
 rt_says kit-1 0 "${unchanged[@]/%/ proved (unchanged since it was last proved)}" 'rt: ok, 3 crates proved'
 sed -i '/unchanged/s/^/rt: /' "$room/stand-in/words"
@@ -130,9 +133,7 @@ the bus
 status 0" "$(run "$house/demo/run")"
 say 'its log has the words of both' 'rt: side proved (4 s)
 words of the archive' "$(cat "$house/target/first-run/demo.log")"
-stamped side
-touch -d '-1 hour' "$house/crates/side/src/lib.rt"
-touch -d '+1 hour' "$house/target/staticlib/libuss_c.a"
+stamped side uss_c_c
 rt_says kit-1 0 'rt: ok, 3 crates proved'
 say 'demo/run, nothing changed' 'the bus
 status 0' "$(run "$house/demo/run")"

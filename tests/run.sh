@@ -37,6 +37,11 @@ closed() {
     [ -z "$undefined$kept$entered" ]
 }
 
+# where the module for the chips has been taken, the archive of that run is this one
+same_module() {
+    [ ! -f target/ports/module/libuss_c.a ] || cmp "$archive" target/ports/module/libuss_c.a
+}
+
 # it keeps neither the sixteen pages nor the sixteen nibbles as a list (document 02, W-202)
 listless() {
     local kept list
@@ -131,6 +136,7 @@ fi
 try 'the archive offers what the header declares' symbols
 try 'the archive has no state and no system call, and needs nothing from outside' closed
 try 'the archive keeps no list of pages or nibbles' listless
+try 'the archive and the module for the chips are of one run' same_module
 try 'C test' c_test
 try 'header under C++' header_in_cpp
 try 'tables by the macros' table_macros

@@ -117,13 +117,14 @@ def prove(root, kit, folder):
 
 # All words that may stand in a function, but for names and numbers: none of them means one thing on x86-64 and another elsewhere. A
 # double is IEEE 754's binary64 on each target, rounded to the nearest, by the chip or by its compiler's library.
-OPCODES = set("""add alloca and ashr br call fdiv getelementptr icmp load lshr mul or phi ret sdiv select sext shl sitofp srem store
+OPCODES = set("""add alloca and ashr br call extractvalue fdiv getelementptr icmp load lshr mul or phi ret sdiv select sext shl sitofp srem store
     sub switch trunc udiv unreachable urem xor zext""".split())
 WORDS = OPCODES | set("""align double eq exact false i1 i16 i32 i64 i8 inbounds label ne noundef nsw nuw ptr range sge sgt sle slt to
     true uge ugt ule ult void x zeroext""".split())
 NUMBER = r"-?\b\d+(?:\.\d+e[+-]\d+)?\b"
 MEMMOVE = "llvm.memmove.p0.p0.i64"
 MEMSET = "llvm.memset.p0.i64"
+FENCE = "llvm.arithmetic.fence.f64"  # keeps a double from being reckoned in another order, which no flag here allows
 HEAD = re.compile(r'define (internal )?(?:noundef |zeroext )*(.+?) @("[^"]+"|\w+)\((.*)\) #0 \{')
 TAIL = [  # all that may stand outside functions
     r"; ModuleID = .*",
@@ -131,10 +132,13 @@ TAIL = [  # all that may stand outside functions
     r'target datalayout = "e-[^"]*"',
     r'target triple = "x86_64-unknown-linux-gnu"',
     r"; Function Attrs: .*",
+    r'@static\.\d+ = private unnamed_addr constant \[\d+ x i8\] (?:c"[^"]*"|zeroinitializer), align 1',
     r"declare void @llvm\.memmove\.p0\.p0\.i64\(ptr writeonly captures\(none\), ptr readonly captures\(none\), i64, i1 immarg\) #[12]",
     r"declare void @llvm\.memset\.p0\.i64\(ptr writeonly captures\(none\), i8, i64, i1 immarg\) #[12]",
+    r"declare double @llvm\.arithmetic\.fence\.f64\(double\) #3",
     r'attributes #0 = \{ nounwind "probe-stack"="inline-asm" "stack-probe-size"="\d+" "target-cpu"="x86-64" \}',
     r"attributes #[12] = \{ nocallback nofree nounwind willreturn memory\(argmem: (?:readwrite|write)\) \}",
+    r"attributes #3 = \{ nocallback nocreateundeforpoison nofree nosync nounwind speculatable willreturn memory\(none\) \}",
     r"!llvm\.ident = !\{!0\}",
     r'!0 = !\{!"rattle logic=[0-9a-f]+"\}',
     r"![1-9] = !\{(i8 0, i8 \d+)?\}",
@@ -161,7 +165,8 @@ def read_body(name, lines):
             continue
         called = re.findall(r'@("[^"]+"|[\w.]+)', text)
         bare = re.sub(rf'@("[^"]+"|[\w.]+)|%[\w.]+|!\w+|{NUMBER}', " ", text)
-        unknown = set(re.findall(r"[^\s(),=\[\]]+", bare)) - WORDS
+        # two whole numbers at once stand at the same places on every target
+        unknown = set(re.findall(r"[^\s(),=\[\]]+", re.sub(r"\{ i(8|16|32|64), i(8|16|32|64) \}", " ", bare))) - WORDS
         if unknown or len(called) > 1 or not set(re.findall(r"!([a-z]\w*)", text)) <= {"noundef", "range"}:
             raise Refused(f"the module's {name} has an instruction that is not understood: {text.strip()}")
         if called == [MEMMOVE] and not re.search(r"i64 \d+, i1 false\)$", text):
@@ -192,8 +197,9 @@ def read(path):
         functions[name] = Function(name, inner, match[2], parameters_of(match[4], name), line, body)
         at = end + 1
     inner = {name for name, f in functions.items() if f.inner}
+    constants = {line[1:].split(" ")[0] for line in tail if line.startswith("@")}
     for f in functions.values():
         for called in re.findall(r'@("[^"]+"|[\w.]+)', "\n".join(f.body)):
-            if called.strip('"') not in inner | {MEMMOVE, MEMSET}:
+            if called.strip('"') not in inner | constants | {MEMMOVE, MEMSET, FENCE}:
                 raise Refused(f"the module's {f.name} calls {called}, which is not in it")
     return Module(functions, tail)

@@ -126,6 +126,10 @@ MODULES = [  # the same for the module
     ("another target", "x86_64-unknown-linux-gnu", "x86_64-apple-macosx"),
     ("another attribute", "attributes #0 = { nounwind ", "attributes #0 = { nounwind naked "),
     ("a struct copied with another size", "(ptr %a0, ptr %r0, i64 16, i1 false)", "(ptr %a0, ptr %r0, i64 12, i1 false)"),
+    ("a slice's length beside another slice's pointer", "getelementptr i8, ptr %r2, i64 8", "getelementptr i8, ptr %r4, i64 8"),
+    ("a pair of doubles", "extractvalue { i32, i32 }", "extractvalue { double, double }"),
+    ("bytes set to something else", "i8 0, i64 16, i1 false", "i8 1, i64 16, i1 false"),
+    ("a constant that may be written", "private unnamed_addr constant", "private unnamed_addr global"),
     ("an inner function of another name", '@"uss_c_c::uss_bcc"(', '@"uss_c_c::uss_sum"('),
 ]
 
