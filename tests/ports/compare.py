@@ -207,7 +207,7 @@ def one_too_many(builder, name, head):
     """A shim that says one byte more than it was lent."""
     call = head.calls["uss_bcc"]
     port = os.path.join(ROOT, "target", "ports", name, "made", "port.bc")
-    text = shim.opening(head) + shim.shim_of(head, call).replace("}, len}", "}, len + 1}")
+    text = shim.opening(head) + shim.shim_of(head, call).replace("(bytes, len);", "(bytes, len + 1);")
     words = ["-Xclang", "-mlink-builtin-bitcode", "-Xclang", port]
     return wrong_program(builder, name, "count", [("uss_bcc.c", text, words)], head)
 
