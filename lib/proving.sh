@@ -3,8 +3,8 @@
 # The caller sets `root`, the repository's folder, and `me`, its own name as it is typed. What the prover itself said at the last
 # start that proved or refused something is kept in a log under target/first-run.
 
-# the 43 crates of demo/run take some three minutes on two cores, the 9 of telegram-list 39 s (README.md)
-seconds_a_crate=5
+# the 43 crates of demo/run take 11 min 3 s on two cores, the 9 of telegram-list 2 min 2 s (README.md)
+seconds_a_crate=16
 
 # tell TEXT
 tell() {

@@ -78,8 +78,8 @@ instance() {
     grep -qxF "pub $3 : $4" "$results" && grep -qE "^use Rattle\.${1%%::*}\.proofs\.«?${1##*::}»?\.Reads as $2\$" "$results"
 }
 
-# holds_a_reference NAME: the function is given or gives a struct that holds a reference, so that the prover makes no statement of its
-# contract; claims_CRATE states it in HeldTable, as NewPost for new, and proves that the source says the same
+# holds_a_reference NAME: the function is given or gives a struct that holds a reference; the statement of its contract is written out
+# in claims_CRATE, HeldTable, as NewPost for new, with the proof that the source says the same
 holds_a_reference() {
     grep -qE "^pub fn ${1##*::}<'a>" "crates/${1%%::*}/src/lib.rt"
 }
