@@ -2,7 +2,8 @@
 # Compares the numbers that the calls give, wherever they are told. The place is include/uss.h: its enums uss_number and uss_error have
 # name, number and meaning of each. README.md and docs/PROTOCOL.md: every one has a row with the same number, names and meaning, and there
 # is no other; the rules of a table (uss_rule) have their rows in docs/TABLES.md. The definitions in crates/*/specs: the numbers of all
-# definitions NAME_number over an enum are those of the enums, and no other. The order in which they are tested, by the rows of the definitions, is that of docs/PROTOCOL.md's tables and of each line
+# definitions NAME_number over an enum, a Result or an Option are those of the enums, and no other; the rule 0 is that of the check that
+# finds nothing. The order in which they are tested, by the rows of the definitions, is that of docs/PROTOCOL.md's tables and of each line
 # "Numbers, in test order" of docs/PROTOCOL.md, docs/CALLS.md and include/uss.h. docs/PROTOCOL.md's pages, tasks and worked telegrams are
 # those of the definitions. Exits 1 where one of these does not hold.
 set -euo pipefail
@@ -60,31 +61,40 @@ def constants(enum):
 ANSWERS, ERRORS, RULES = constants("uss_number"), constants("uss_error"), constants("uss_rule")
 ALIASES = dict(re.findall(r"^#define (USS_\w+) (USS_\w+)$", HEADER, re.M))
 
-# ---- the definitions: an enum's case to its number
+# ---- the definitions: a case to its number
 
 SPECS = {path: text_of(path) for path in sorted(glob.glob("crates/*/specs/*.antt"))}
-DEFINED = {}  # name: (the enum, its clauses)
+DEFINED = {}  # crate and name: (the type that it is over, its clauses, the names that its file brings in with their crates)
 for path, text in SPECS.items():
-    for name, enum in re.findall(r"^(?:abbrev |unfoldable )?pub (\w+_number) : ([A-Z]\w*) → ℕ$", text, re.M):
-        DEFINED[name] = (enum, re.findall(rf"^{name} (.+?) = (.+)$", text, re.M))
+    crate = path.split("/")[1]
+    brought = {}
+    for of, names in re.findall(r"^use Rattle\.(\w+)\.specs\.[\w.]+\.\{(.*)\}$", text, re.M):
+        brought.update({name: of for name in re.findall(r"\w+", names)})
+    for name, over in re.findall(r"^(?:abbrev |unfoldable )?pub (\w+_number) : ((?:Result|Option) .+|[A-Z]\w*) → ℕ$", text, re.M):
+        DEFINED[crate, name] = (over, re.findall(rf"^{name} (.+?) = (.+)$", text, re.M), brought)
 
 
-def numbers_of(name):
-    """The numbers of a definition, case by case, those of the definitions that it hands on to among them."""
+def numbers_of(crate, name, wanted=""):
+    """The numbers of a definition, of all cases or of one constructor's, those of the definitions that it hands on to among them."""
+    _, clauses, brought = DEFINED[crate, name]
     found = []
-    for case, value in DEFINED[name][1]:
-        found += [int(value)] if value.isdigit() else numbers_of(value.split()[0])
+    for case, value in clauses:
+        if case.strip("()").split()[0].startswith(wanted):
+            handed = value.split()[0]
+            found += [int(value)] if value.isdigit() else numbers_of(brought.get(handed, crate), handed)
     return found
 
 
-def number_of(name, case):
+def number_of(crate, name, case):
     """The number of one case of a definition."""
-    return next(int(value) for pattern, value in DEFINED[name][1] if pattern.strip("()").split()[0] == case)
+    return next(int(value) for pattern, value in DEFINED[crate, name][1] if pattern.strip("()").split()[0] == case)
 
 
 told = {"uss_number": set(), "uss_error": set(), "uss_rule": set()}
-for name, (enum, _) in DEFINED.items():
-    told[{"ParameterError": "uss_error", "Rule": "uss_rule"}.get(enum, "uss_number")] |= set(numbers_of(name))
+for (crate, name), (over, _, _) in DEFINED.items():
+    told[{"ParameterError": "uss_error", "Rule": "uss_rule"}.get(over.split()[-1], "uss_number")] |= set(numbers_of(crate, name))
+none_broken = re.search(r"^none_broken = record \{ number = 0; rule = (\d+);", SPECS["crates/table_check/specs/Checks.antt"], re.M)
+told["uss_rule"].add(int(none_broken[1]))
 for enum, found in [("uss_number", ANSWERS), ("uss_error", ERRORS), ("uss_rule", RULES)]:
     same(f"the numbers of the definitions and of enum {enum}", sorted(told[enum]), sorted(number for number, _ in found.values()))
 TABLES = re.search(r"^## The rules$(.*?)^## ", text_of("docs/TABLES.md"), re.S | re.M)[1]
@@ -101,9 +111,9 @@ def body_of(crate, file, name):
     return re.sub(r"--.*", "", body)
 
 
-def cases(text, constructor, name):
+def cases(text, constructor, crate, name):
     """The numbers of the cases that a constructor holds in a text, in order."""
-    return [number_of(name, case) for case in re.findall(rf"\b{constructor} \(?(\w+)", text)]
+    return [number_of(crate, name, case) for case in re.findall(rf"\b{constructor} \(?(\w+)", text)]
 
 
 def rows(crate, file, name):
@@ -116,31 +126,32 @@ def rows(crate, file, name):
 
 
 content = body_of("opening", "Answers", "content_rows")
-OPENING = cases(body_of("opening", "Answers", "opening_rows").replace("content_rows", content), "Closed", "opening_number")
-LIST = number_of("opening_number", "BadPlaces")  # where no list is lent its row never holds
-TABLE = [number for number in cases(content, "Closed", "opening_number") if number != LIST] + [0]
-FILL = cases(body_of("places", "Fill", "filling_rows"), "Closed", "opening_number") + [0]
-VIEW = [number_of("opening_number", "BadTable"), 0]
-FRAME = cases(body_of("frame", "Frame", "frame_rows"), "Broken", "frame_number")
+OPENING = cases(body_of("opening", "Answers", "opening_rows").replace("content_rows", content), "Err", "slave_answers", "opening_number")
+LIST = number_of("slave_answers", "opening_number", "BadPlaces")  # where no list is lent its row never holds
+TABLE = [number for number in cases(content, "Err", "slave_answers", "opening_number") if number != LIST] + [0]
+FILL = cases(body_of("places", "Fill", "filling_rows"), "Err", "slave_answers", "opening_number") + [0]
+VIEW = [number_of("slave_answers", "opening_number", "BadTable"), 0]
+FRAME = cases(body_of("frame", "Frame", "frame_rows"), "Err", "frame", "frame_number")
 LISTED = rows("claims_slave", "AnswerTable", "answer_rows")
-BUILD = cases(body_of("master", "Build", "admit_rows"), "Refused", "build_number")
+BUILD = cases(body_of("master", "Build", "admit_rows"), "Err", "build_answers", "build_number")
 READ = rows("claims_reply", "AnswerTable", "reading_rows")
-same("the rows of the slave call and refusal_number", sorted(LISTED), sorted(numbers_of("refusal_number")))
-same("the rows of a build and build_number", sorted(BUILD), sorted(numbers_of("build_number")))
-same("the rows of a reading and read_fault_number", sorted(READ), sorted(numbers_of("read_fault_number")))
+same("the rows of the slave call and refusal_number", sorted(LISTED), sorted(numbers_of("slave_answers", "refusal_number")))
+same("the rows of a build and build_number", sorted(BUILD), sorted(numbers_of("build_answers", "build_number")))
+same("the rows of a reading and read_fault_number", sorted(READ), sorted(numbers_of("read_answers", "read_fault_number")))
 
 
-def accepted(name):
+def accepted(crate, name):
     """What is left of an answer's numbers without its refusals."""
-    return [int(value) for _, value in DEFINED[name][1] if value.isdigit()]
+    return numbers_of(crate, name, "Ok")
 
 
-SHOW = sorted(set(numbers_of("figure_number")), reverse=True)  # its one refusal, then 0
-LISTED, BUILD, READ = LISTED + accepted("answer_number"), BUILD + accepted("built_number"), READ + accepted("read_number")
+SHOW = numbers_of("figure", "figure_number", "Err") + accepted("figure", "figure_number")  # its one refusal, then 0
+LISTED, BUILD, READ = (found + accepted(crate, name) for found, crate, name in (
+    (LISTED, "slave_answers", "answer_number"), (BUILD, "build_answers", "built_number"), (READ, "read_answers", "read_number")))
 SLAVE = [number for number in LISTED if number != LIST]
-VERDICT = cases(body_of("slave", "Perform", "plan_on"), "error_area a", "error_number") \
-    + cases(body_of("verdict", "Verdict", "verdict_rows"), "Denied", "error_number")
-same("the errors' rows and error_number", sorted(VERDICT), sorted(numbers_of("error_number")))
+VERDICT = cases(body_of("slave", "Perform", "plan_on"), "error_area a", "errors", "error_number") \
+    + cases(body_of("verdict", "Verdict", "verdict_rows"), "Err", "errors", "error_number")
+same("the errors' rows and error_number", sorted(VERDICT), sorted(numbers_of("errors", "error_number")))
 
 # ---- the pages: a row for each
 

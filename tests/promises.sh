@@ -1,9 +1,10 @@
 #!/usr/bin/env bash
-# Compares the pages with the sources. docs/PROMISES.md: no public function has a `requires`; every one has a row, with at least two
-# must-fail edits of its own crate (a function of uss_c, which hands on to another, at least one) and its own instances of
-# claims_results, one for the result and one for each slice lent for writing; the exports of uss_c_c are the functions of uss_c, with
-# the same parameters and promises, and each calls the one of its name; every row names a function, and every edit of the
-# repository is named on the page, says in its second line at which fact it fails, and changes no proof. docs/PROTOCOL.md,
+# Compares the pages with the sources. docs/PROMISES.md: no public function has a `requires`; every one has a row, a method under its
+# type and a conversion `From` under its types, with at least two must-fail edits of its own crate (a function of uss_c, which hands on
+# to another, and a conversion at least one) and its own instances of claims_results, one for the result and one for each slice lent for
+# writing; the exports of uss_c_c are the functions of uss_c, with the same parameters and promises, and each calls the one of its name;
+# every row names a function, and every edit of the repository is named on the page, says in its second line at which fact it fails, and
+# changes no proof. docs/PROTOCOL.md,
 # docs/PROMISES.md, docs/DECISIONS.md, docs/DAMAGE.md, docs/HOUSE.md, docs/TABLES.md and CONTRIBUTING.md: each name that is given with
 # its crate and file stands there. Every page: a link leads to a file of the repository, and to a heading of it where it names one;
 # "docs/PROTOCOL.md, Section" names a section of it. Exits 1 where one of these does not hold.
@@ -17,15 +18,15 @@ wrong() {
     failed=1
 }
 
-# a line for each public function: its name, how many edits it has at least, and its lent slices: for each that is lent for writing
-# its parameter and the parameter's place among all, as in `values:2`
+# a line for each public function, a method under its type: its name, how many edits it has at least, and its lent slices: for each that
+# is lent for writing its parameter and the parameter's place among all, as in `values:2`
 functions="$(for source in crates/*/src/*.rt; do
     [ "$source" != crates/uss_c_c/src/lib.rt ] || continue
     crate="${source#crates/}"
     awk -v crate="${crate%%/*}" '
         function tell(    name, list, n, i, parts, lent) {
             name = head
-            sub(/^pub (extern "C" )?fn /, "", name)
+            sub(/^ *pub (extern "C" )?fn /, "", name)
             sub(/[^a-z_0-9].*/, "", name)
             list = head
             sub(/^[^(]*\(/, "", list)
@@ -38,10 +39,17 @@ functions="$(for source in crates/*/src/*.rt; do
                     lent = lent " " parts[i] ":" (i - 1)
                 }
             }
-            print crate "::" name, least lent
+            print crate "::" type name, least lent
         }
-        /^pub (extern "C" )?fn / { head = ""; reading = 1; least = crate == "uss_c" ? 1 : 2 }
-        reading && (/^{/ || /^ *(ghost|requires|ensures) /) { reading = 0; tell() }
+        /^impl From</ {
+            from = $0; sub(/^impl From</, "", from); sub(/>.*/, "", from)
+            to = $0; sub(/.*> for /, "", to); sub(/ .*/, "", to)
+            print crate "::" toupper(substr(to, 1, 1)) substr(to, 2) "From" from "::from", 1
+        }
+        /^impl/ { type = $0; sub(/^impl(<[^>]*>)? /, "", type); sub(/[^A-Za-z0-9].*/, "::", type) }
+        /^}/ { type = "" }
+        /^ *pub (extern "C" )?fn / { head = ""; reading = 1; least = crate == "uss_c" ? 1 : 2 }
+        reading && (/^ *{/ || /^ *(ghost|requires|ensures) /) { reading = 0; tell() }
         reading { head = head $0 }
         reading && /{$/ { reading = 0; tell() }' "$source"
 done)"
@@ -49,9 +57,9 @@ done)"
 # a `requires` between a public function's name and its body
 for source in crates/*/src/*.rt; do
     awk -v source="$source" '
-        /^pub (extern "C" )?fn / { public = 1; name = $0 }
-        /^fn / { public = 0 }
-        /^{/ { public = 0 }
+        /^ *pub (extern "C" )?fn / { public = 1; name = $0 }
+        /^ *fn / { public = 0 }
+        /^ *{/ { public = 0 }
         public && /^ *requires / { print "promises: " source ": " name " has a requires"; bad = 1 }
         END { exit bad }' "$source" || failed=1
 done
@@ -66,22 +74,33 @@ while read -r name; do
     [ "$(sed -n "/^pub extern \"C\" fn $name(/,/^}/p" crates/uss_c_c/src/lib.rt | grep -c "^    uss_c::$name(")" = 1 ] || wrong "uss_c_c::$name does not call uss_c::$name"
 done < <(sed -nE 's/^pub extern "C" fn ([a-z_0-9]+).*/\1/p' crates/uss_c_c/src/lib.rt)
 
-# prefix_of NAME: what the names of a function's instances start with: slave-serve for slave::serve, uss-slave for uss_c::uss_slave
+# prefix_of NAME: what the names of a function's instances start with: slave-serve for slave::serve, uss-slave for uss_c::uss_slave; a
+# method has its type between, where that is not the crate's name, as read-answers-content-id for read_answers::Content::id and view-new
+# for view::View::new; a conversion has its two, as address-number-of-fault for address::U32FromFault::from and
+# address-fault-from-frame-fault for address::FaultFromFrameFault::from
 prefix_of() {
-    local prefix="${1/::/-}"
+    local crate="${1%%::*}" prefix="${1#*::}"
+    if [ "${prefix##*::}" = from ]; then
+        prefix="${prefix%::from}"
+        prefix="${prefix/#U32From/NumberOf}"
+    fi
+    prefix="$crate-$(sed 's/::/-/; s/\(.\)\([A-Z]\)/\1-\l\2/g; s/^[A-Z]/\l&/' <<<"$prefix")"
+    prefix="${prefix/#$crate-$crate-/$crate-}"
     prefix="${prefix#uss_c-}"
     echo "${prefix//_/-}"
 }
 
 # instance NAME PREFIX LAW STATEMENT: the law is in the file of results, with that statement about the contract of that function
 instance() {
-    grep -qxF "pub $3 : $4" "$results" && grep -qE "^use Rattle\.${1%%::*}\.proofs\.«?${1##*::}»?\.Reads as $2\$" "$results"
+    local path="${1#*::}"
+    grep -qxF "pub $3 : $4" "$results" && grep -qE "^use Rattle\.${1%%::*}\.proofs\.«?${path//::/»?\\.«?}»?\.Reads as $2\$" "$results"
 }
 
-# holds_a_reference NAME: the function is given or gives a struct that holds a reference; the statement of its contract is written out
-# in claims_CRATE, HeldTable, as NewPost for new, with the proof that the source says the same
+# holds_a_reference NAME: a method of a struct that holds a reference; the statement of its contract is written out in claims_CRATE,
+# HeldTable, as NewPost for new, with the proof that the source says the same
 holds_a_reference() {
-    grep -qE "^pub fn ${1##*::}<'a>" "crates/${1%%::*}/src/lib.rt"
+    local type="${1#*::}"
+    grep -qE "^impl<'a> ${type%%::*}<'a>" "crates/${1%%::*}/src/lib.rt"
 }
 
 # held_instance NAME LAW: the law is in the file of results, with the statement that claims_CRATE has
@@ -129,7 +148,7 @@ while IFS='|' read -r _ function _ _ edits laws _; do
     done
     given="$(tr -d '`,' <<<"$laws" | xargs)"
     [ "$(xargs -n 1 <<<"$given" | sort)" = "$(xargs -n 1 <<<"$own" | sort)" ] || wrong "$name: its instances are $own, its row names $given"
-done < <(grep -E '^\| `[a-z_]+::[a-z_0-9]+` \|' "$page")
+done < <(grep -E '^\| `[a-z_]+::([A-Z][A-Za-z0-9]*::)?[a-z_0-9]+` \|' "$page")
 
 for name in $(cut -d' ' -f1 <<<"$functions"); do
     grep -qF "| \`$name\` |" "$page" || wrong "$name has no row"

@@ -188,6 +188,8 @@ def main():
         print(f"FAILED: ports/build must refuse: {'; '.join(bad)}" if bad
               else f"passed: ports/build refuses {len(cases)} of {len(cases)} {group}")
     crates = {name.partition("::")[0] for name, function in proved.functions.items() if function.inner}
+    # what the toolchain's own library gives changes with the kit, whose number is in the stamp
+    crates.discard("core")
     unseen = sorted(crates - set(module.needed(ROOT)))
     print(f"FAILED: ports/build keeps an old module where these change: {' '.join(unseen)}" if unseen
           else f"passed: ports/build makes a new module where one of its {len(crates)} crates changes")

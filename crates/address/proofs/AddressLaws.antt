@@ -5,11 +5,12 @@ use Prim.Native.Nat.{ℕ, ◌+◌, ◌/◌, ◌%◌, ◌≤◌, ◌<◌}
 use native.Mathlib.Omega.{arith}
 use borrow.Author.Tests.{leb-true, leb-false, lt-leb, eq-eqb, ne_eqb}
 use lib.Dec.{leb, eqb}
+use Rattle.std.specs.Prelude.{Ok}
 use Rattle.rows.specs.Bits.{bit}
 use Rattle.address.specs.Address.{top_bit, address_of}
 use Rattle.address.specs.declared.Address.TheVariants.{ToOne, ToMirror, ToAll}
 
-pub to_one : (node : ℕ) → node ≤ 31 → address_of node ≡ ToOne node
+pub to_one : (node : ℕ) → node ≤ 31 → address_of node ≡ Ok (ToOne node)
 unfolding address_of
 to_one node h =
     let five : node / 32 % 2 ≡ 1 → ⊥ = λ e. omega arith in
@@ -17,7 +18,7 @@ to_one node h =
     let low : node % 32 ≡ node = omega arith in
     rw (lt-leb 128 node (omega arith), ne_eqb (node / 32 % 2) 1 five, ne_eqb (node / 64 % 2) 1 six, low)
 
-pub to_mirror : (node : ℕ) → node ≤ 31 → address_of (node + 64) ≡ ToMirror node
+pub to_mirror : (node : ℕ) → node ≤ 31 → address_of (node + 64) ≡ Ok (ToMirror node)
 unfolding address_of
 to_mirror node h =
     let five : (node + 64) / 32 % 2 ≡ 1 → ⊥ = λ e. omega arith in
@@ -25,7 +26,7 @@ to_mirror node h =
     let low : (node + 64) % 32 ≡ node = omega arith in
     rw (lt-leb 128 (node + 64) (omega arith), ne_eqb ((node + 64) / 32 % 2) 1 five, eq-eqb ((node + 64) / 64 % 2) 1 six, low)
 
-pub to_all : address_of 32 ≡ ToAll
+pub to_all : address_of 32 ≡ Ok ToAll
 unfolding address_of
 to_all = refl
 

@@ -9,7 +9,7 @@ ghost use Rattle.area.specs.Read.{value_at, area_at, process_at, empty_area};
 use words::{Words, join, join_double};
 
 // The words of a parameter area: PKE, IND, and the value over the words that are left.
-#[derive(Clone, Copy)]
+#[derive(Clone, Copy, Debug, Default, PartialEq, Eq)]
 pub struct Area {
     pub pke: u16,
     pub ind: u16,
@@ -24,15 +24,11 @@ fn word_in(t: &[u8], at: usize) -> u16
     join(t[at], t[at + 1])
 }
 
-// The area whose words are all 0.
+// The area whose words are all 0. It is `Area::default()`; the function stays, as docs/PROMISES.md has a promise of it.
 pub fn empty_area() -> Area
     ensures { result ≡ empty_area }
 {
-    Area {
-        pke: 0,
-        ind: 0,
-        value: 0,
-    }
+    Area::default()
 }
 
 // The word at any place: a byte past the end is 0. Bounds on a place only keep sums from wrapping.
@@ -69,21 +65,17 @@ fn value_at(t: &[u8], n: u8) -> u32
 pub fn read_area(t: &[u8], n: u8) -> Area
     ensures { result ≡ area_at t.now n }
 {
-    if n == 4 {
-        if 11 <= t.len() {
-            let value = join_double(word_in(t, 7), word_in(t, 9));
-            return Area {
-                pke: word_in(t, 3),
-                ind: word_in(t, 5),
-                value,
-            };
-        }
+    if n == 4 && 11 <= t.len() {
+        return Area {
+            pke: word_in(t, 3),
+            ind: word_in(t, 5),
+            value: join_double(word_in(t, 7), word_in(t, 9)),
+        };
     }
-    let value = value_at(t, n);
     Area {
         pke: word_at(t, 3),
         ind: word_at(t, 5),
-        value,
+        value: value_at(t, n),
     }
 }
 

@@ -10,10 +10,7 @@ fn four(t: &[u8], at: usize) -> u32
     requires { at + 4 ≤ length t.now }
     ensures { result ≡ double_of (word_of (byte_at t.now (at + 3)) (byte_at t.now (at + 2))) (word_of (byte_at t.now (at + 1)) (byte_at t.now at)) }
 {
-    words::join_double(
-        words::join(t[at + 3], t[at + 2]),
-        words::join(t[at + 1], t[at]),
-    )
+    u32::from_le_bytes([t[at], t[at + 1], t[at + 2], t[at + 3]])
 }
 
 // The XOR of all bytes. A double word takes four bytes a turn from each of two halves, then the last 4, 2 and 1 that the
@@ -24,21 +21,19 @@ pub fn bcc(bytes: &[u8]) -> u8
     let n = bytes.len();
     let half = n / 8;
     let mut sum: u32 = 0;
-    let mut i = 0;
-    while i < half {
-        sum = sum ^ (four(bytes, i * 4) ^ four(bytes, (half + i) * 4));
-        i += 1;
+    for i in 0..half {
+        sum ^= four(bytes, i * 4) ^ four(bytes, (half + i) * 4);
     }
     if n % 8 != 0 {
         if n / 4 % 2 == 1 {
-            sum = sum ^ four(bytes, half * 8);
+            sum ^= four(bytes, half * 8);
         }
         if n / 2 % 2 == 1 {
             let at = n / 4 * 4;
-            sum = sum ^ (words::join(bytes[at + 1], bytes[at]) as u32);
+            sum ^= words::join(bytes[at + 1], bytes[at]) as u32;
         }
         if n % 2 == 1 {
-            sum = sum ^ (bytes[n - 1] as u32);
+            sum ^= bytes[n - 1] as u32;
         }
     }
     let low = (sum % 65536) as u16;

@@ -7,7 +7,7 @@ ghost use Rattle.broadcast.specs.Broadcast.{is_void, merge_of, word_merged, cont
 use words::Words;
 
 // The parameter area of a broadcast: word 1 selects process words, words 2 and 3 are their masks, and a fourth must be 0.
-#[derive(Clone, Copy)]
+#[derive(Clone, Copy, Debug, PartialEq, Eq)]
 pub struct Command {
     pub selector: u16,
     pub mask1: u16,
@@ -21,34 +21,15 @@ pub fn is_void(command: Command, pkw: u8, pzd: u8, first: u16) -> bool
     ensures { result ≡ is_void command pkw pzd first }
 {
     let selector = command.selector;
-    if pkw == 0 {
-        return true;
-    }
-    if pzd == 0 {
-        return true;
-    }
-    if selector / 2 % 2 != 1 {
-        return true;
-    }
-    if command.mask1 / 1024 % 2 != 1 {
-        return true;
-    }
-    if first / 1024 % 2 != 1 {
-        return true;
-    }
-    if selector % 2 != 0 {
-        return true;
-    }
-    if selector / 8 != 0 {
-        return true;
-    }
-    if command.fourth != 0 {
-        return true;
-    }
-    if selector / 4 % 2 == 1 {
-        return pzd < 2;
-    }
-    false
+    pkw == 0
+        || pzd == 0
+        || selector / 2 % 2 != 1
+        || command.mask1 / 1024 % 2 != 1
+        || first / 1024 % 2 != 1
+        || selector % 2 != 0
+        || selector / 8 != 0
+        || (selector / 4 % 2 == 1 && pzd < 2)
+        || command.fourth != 0
 }
 
 // The masked bits of the word, and the rest of the old one.

@@ -1,42 +1,22 @@
-// The answers of a master's builds (document 01, Answer numbers 30 to 32 and 0): an enum, one case for each cause, and the document's
-// number of each.
+// Why a master does not build (document 01, Answer numbers 30 to 32): an enum, one case for each cause, and the document's number of each.
 #![tactic(auto)]
 
 ghost use Rattle.std.specs.Prelude.{◌≡◌};
-ghost use Rattle.build_answers.specs.BuildNumbers.{build_number, built_number};
+ghost use Rattle.build_answers.specs.BuildNumbers.{build_number};
 
-// Why no telegram is built: 30, 31, 32.
-#[derive(Clone, Copy)]
+// Why no telegram is built, by the document's numbers.
+#[derive(Clone, Copy, Debug, PartialEq, Eq)]
 pub enum BuildFault {
-    BadSetup,
-    NotExpressible,
-    ShortBuffer,
-}
-
-// The answer of a build.
-#[derive(Clone, Copy)]
-pub enum BuildAnswer {
-    Done,
-    Refused(BuildFault),
+    BadSetup = 30,
+    NotExpressible = 31,
+    ShortBuffer = 32,
 }
 
 // The document's number of a refusal.
-fn number_build(fault: BuildFault) -> u32
-    ensures { result ≡ build_number fault }
-{
-    match fault {
-        BuildFault::BadSetup => 30,
-        BuildFault::NotExpressible => 31,
-        BuildFault::ShortBuffer => 32,
-    }
-}
+impl From<BuildFault> for u32 {
+    ghost from_gives = { λ fault number. number ≡ build_number fault };
 
-// The document's number of a build's answer.
-pub fn number_built(answer: BuildAnswer) -> u32
-    ensures { result ≡ built_number answer }
-{
-    match answer {
-        BuildAnswer::Done => 0,
-        BuildAnswer::Refused(fault) => number_build(fault),
+    fn from(fault: BuildFault) -> u32 {
+        fault as u32
     }
 }

@@ -14,6 +14,7 @@ use native.Mathlib.Omega.{arith}
 use borrow.Author.Tests.{ltb-true}
 use lib.Dec.{ltb, lit<}
 use lib.ListN.{length}
+use Rattle.std.specs.Prelude.{Result}
 use Rattle.rows.specs.Bits.{bit}
 use Rattle.rows.proofs.BoolLaws.{and_left, and_right}
 use Rattle.rows.proofs.RangeLaws.{between}
@@ -21,7 +22,8 @@ use Rattle.words.specs.Words.{byte_at, Bytes}
 use Rattle.bcc.specs.Bcc.{xor_all}
 use Rattle.frame.specs.Frame.{frame_of, is_sound}
 use Rattle.address.specs.Address.{address_of, decoded_of}
-use Rattle.address.specs.declared.Decoded.{Decoded}
+use Rattle.address.specs.declared.Telegram.{Telegram}
+use Rattle.address.specs.declared.Fault.{Fault}
 use Rattle.claims_damage.specs.Damage.{Passes, damaged, Damage, flips, Unseen, Hit, OneByte, Order, Burst}
 use Rattle.claims_damage.specs.Examples.{sent, twice, wrong_byte, eight_bits, first_byte, examples, passing, unseen_read}
 
@@ -34,11 +36,11 @@ unfolding frame_of xor_all zip_with
 examples_hold = refl
 
 -- the telegrams that are read below are the examples that pass
-pub unseen_received : map (λ (x : List ℕ × Bool). damaged sent x.0) (passing examples) ≡ map (λ (x : List ℕ × Decoded). x.0) unseen_read
+pub unseen_received : map (λ (x : List ℕ × Bool). damaged sent x.0) (passing examples) ≡ map (λ (x : List ℕ × Result Telegram Fault). x.0) unseen_read
 unfolding zip_with
 unseen_received = refl
 
-pub unseen_read_lem : map (λ (x : List ℕ × Decoded). decoded_of x.0) unseen_read ≡ map (λ (x : List ℕ × Decoded). x.1) unseen_read
+pub unseen_read_lem : map (λ (x : List ℕ × Result Telegram Fault). decoded_of x.0) unseen_read ≡ map (λ (x : List ℕ × Result Telegram Fault). x.1) unseen_read
 unfolding frame_of xor_all address_of
 unseen_read_lem = refl
 

@@ -15,12 +15,12 @@ use native.Mathlib.Omega.{arith}
 use borrow.Author.Tests.{le-ltb, eq-eqb, ne_eqb}
 use lib.Bits.{bit_xor, xor_zero_r}
 use lib.ListN.{length}
+use Rattle.std.specs.Prelude.{Result, Ok, Err}
 use Rattle.rows.specs.Bits.{bit}
 use Rattle.words.specs.Words.{byte_at}
 use Rattle.bcc.specs.Bcc.{xor_all}
 use Rattle.frame.specs.Frame.{frame_of, is_sound}
-use Rattle.frame.specs.declared.FrameCheck.{FrameCheck}
-use Rattle.frame.specs.declared.FrameCheck.TheVariants.{Sound, Broken}
+use Rattle.frame.specs.declared.FrameFault.{FrameFault}
 use Rattle.frame.proofs.NumberLaws.{frame_between}
 use Rattle.bcc.proofs.XorLaws.{xor_all_lt, xor_fix, length_zip, get_or_zip, xor_zip}
 use Rattle.frame.proofs.FrameLaws.{Counted, sound_framed, framed_sound, zero_of_check, check_of_zero}
@@ -80,9 +80,9 @@ exact t f d = (passing_unseen t f d, unseen_passes t f d)
 pub not_passing_refused : (t : List ℕ) → (Passes t → ⊥) → Refuses t
 not_passing_refused t never = go (frame_of t) refl
   where
-    go : (r : FrameCheck) → frame_of t ≡ r → Refuses t
-    go (Sound end) e = absurd (never (ap is_sound e))
-    go (Broken k) e = record { fault = k; answer = e; least = (frame_between k).0; most = (frame_between k).1 }
+    go : (r : Result ℕ FrameFault) → frame_of t ≡ r → Refuses t
+    go (Ok end) e = absurd (never (ap is_sound e))
+    go (Err k) e = record { fault = k; answer = e; least = (frame_between k).0; most = (frame_between k).1 }
 
 -- ---- what is always seen
 

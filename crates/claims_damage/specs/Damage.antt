@@ -9,21 +9,20 @@
 --     Hit f i                a bit of the byte at place i is flipped
 --     OneByte f i            the byte at place i is wrong, and no other
 --     Burst order f from     some bits are flipped, and all of them within eight consecutive data bits
-use Rattle.std.specs.Prelude.{ℕ, ◌+◌, ◌/◌, ◌%◌, ◌≤◌, ◌<◌, ◌≡◌, true, length}
+use Rattle.std.specs.Prelude.{ℕ, ◌+◌, ◌/◌, ◌%◌, ◌≤◌, ◌<◌, ◌≡◌, true, length, Err}
 use mathlib.Core.List.{List, [], ◌∷◌, zip_with}
 use Rattle.std.specs.Int.Bits.{bit_xor}
 use Rattle.rows.specs.Bits.{bit}
 use Rattle.words.specs.Words.{byte_at, Bytes}
 use Rattle.frame.specs.Frame.{frame_of, is_sound, frame_number, check_number}
 use Rattle.frame.specs.declared.FrameFault.{FrameFault}
-use Rattle.frame.specs.declared.FrameCheck.TheVariants.{Broken}
 
 abbrev pub Passes : List ℕ → Type 0
 Passes t = is_sound (frame_of t) ≡ true
 
 pub record Refuses (t : List ℕ) : Type 0 where
   pub fault : FrameFault
-  pub answer : frame_of t ≡ Broken fault
+  pub answer : frame_of t ≡ Err fault
   pub least : 10 ≤ frame_number fault
   pub most : frame_number fault ≤ 14
 

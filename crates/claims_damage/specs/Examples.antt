@@ -4,9 +4,10 @@
 --     examples                                     flips of it, and whether what is received passes
 --     passing xs                                   the flips that pass
 --     unseen_read                                  the examples that pass, as they are received, and what they are read as
-use Rattle.std.specs.Prelude.{ℕ, Bool, true, false, cond, List, [], ◌∷◌}
-use Rattle.address.specs.declared.Decoded.{Decoded}
-use Rattle.address.specs.declared.Decoded.TheVariants.{Normal}
+use Rattle.std.specs.Prelude.{ℕ, Bool, true, false, cond, List, [], ◌∷◌, Result, Ok}
+use Rattle.address.specs.declared.Telegram.{Telegram}
+use Rattle.address.specs.declared.Fault.{Fault}
+use Rattle.address.specs.declared.Telegram.TheVariants.{Normal}
 
 abbrev pub sent : List ℕ
 sent = 0x02 ∷ 0x04 ∷ 0x03 ∷ 0x04 ∷ 0x7F ∷ 0x7E ∷ []
@@ -57,11 +58,11 @@ passing [] = []
 passing (x ∷ xs) = cond x.1 (x ∷ passing xs) (passing xs)
 
 -- each is a normal telegram of two net bytes, to node 3 as it was sent, or to node 4 where the address was swapped
-abbrev pub unseen_read : List (List ℕ × Decoded)
+abbrev pub unseen_read : List (List ℕ × Result Telegram Fault)
 unseen_read =
-    (0x02 ∷ 0x04 ∷ 0x03 ∷ 0x04 ∷ 0x7E ∷ 0x7F ∷ [], Normal 3 3 5)
-    ∷ (0x02 ∷ 0x04 ∷ 0x03 ∷ 0x07 ∷ 0x7C ∷ 0x7E ∷ [], Normal 3 3 5)
-    ∷ (0x02 ∷ 0x04 ∷ 0x03 ∷ 0x04 ∷ 0x6F ∷ 0x6E ∷ [], Normal 3 3 5)
-    ∷ (0x02 ∷ 0x04 ∷ 0x03 ∷ 0x7F ∷ 0x04 ∷ 0x7E ∷ [], Normal 3 3 5)
-    ∷ (0x02 ∷ 0x04 ∷ 0x04 ∷ 0x03 ∷ 0x7F ∷ 0x7E ∷ [], Normal 4 3 5)
+    (0x02 ∷ 0x04 ∷ 0x03 ∷ 0x04 ∷ 0x7E ∷ 0x7F ∷ [], Ok (Normal 3 3 5))
+    ∷ (0x02 ∷ 0x04 ∷ 0x03 ∷ 0x07 ∷ 0x7C ∷ 0x7E ∷ [], Ok (Normal 3 3 5))
+    ∷ (0x02 ∷ 0x04 ∷ 0x03 ∷ 0x04 ∷ 0x6F ∷ 0x6E ∷ [], Ok (Normal 3 3 5))
+    ∷ (0x02 ∷ 0x04 ∷ 0x03 ∷ 0x7F ∷ 0x04 ∷ 0x7E ∷ [], Ok (Normal 3 3 5))
+    ∷ (0x02 ∷ 0x04 ∷ 0x04 ∷ 0x03 ∷ 0x7F ∷ 0x7E ∷ [], Ok (Normal 4 3 5))
     ∷ []

@@ -16,11 +16,13 @@ use lib.Ieee.Nearest.{div_same}
 use lib.Ieee.Scale.{round_same}
 use borrow.Author.Tests.{leb-true}
 use Rattle.rows.proofs.BoolLaws.{and_right}
+use Rattle.std.specs.Prelude.{Ok, Err}
 use Rattle.signs.specs.Signs.{signed_of}
 use Rattle.figure.specs.Figures.{product_of, is_minus, over16384, reference_ok, figure_of}
 use Rattle.figure.specs.declared.Unit.{Unit}
 use Rattle.figure.specs.declared.Unit.TheVariants as U
 use Rattle.figure.specs.declared.Figure.TheVariants as F
+use Rattle.figure.specs.declared.FigureFault.TheVariants.{BadReference}
 use Rattle.figure.proofs.ScaleLaws.{neg_abs, product_small, whole_is}
 use Rattle.claims_figure.specs.Exact.{Times16384, Shows}
 
@@ -63,7 +65,7 @@ pub figure_shows : (unit : Unit) (w ref : ℕ) → Shows unit w ref (figure_of u
 unfolding figure_of
 figure_shows U.Hertz w ref = go (reference_ok ref) refl
   where
-    go : (ok : Bool) → reference_ok ref ≡ ok → Shows U.Hertz w ref (cond ok (F.Hertz (over16384 (product_of w ref))) F.BadReference)
+    go : (ok : Bool) → reference_ok ref ≡ ok → Shows U.Hertz w ref (cond ok (Ok (F.Hertz (over16384 (product_of w ref)))) (Err BadReference))
     go true e = (e, scaled_exact w ref (leb-true ref 650 (and_right (leb 1 ref) (leb ref 650) e)))
     go false e = e
 figure_shows U.Percent w ref = scaled_exact w 100 (lit≤ tt)

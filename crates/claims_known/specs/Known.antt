@@ -3,16 +3,15 @@
 --     known                the list, K1 to K12 in order; k1_first to k12 are its cases, each under its K number
 --     printed, k8_paged    beside the list: 000's example of an XOR, and the other half of K8
 --     indexed              beside the list: plain tasks by index (document 02, W-203)
-use Rattle.std.specs.Prelude.{ℕ, ◌/◌, ◌%◌, List, [], ◌∷◌, replicate, take}
+use Rattle.std.specs.Prelude.{ℕ, ◌/◌, ◌%◌, List, [], ◌∷◌, replicate, take, None}
 use Rattle.bcc.specs.Bcc.{xor_all}
 use Rattle.area.specs.declared.Area.{Area}
 use Rattle.area.specs.Net.{words_of}
 use Rattle.net.specs.Telegram.{telegram_of}
 use Rattle.slave.specs.Perform.{perform_of}
-use Rattle.opening.specs.Lent.{Unlisted}
 use Rattle.slave.specs.Slave.{Outcome, sent_by, call_of}
 use Rattle.request.specs.declared.Request.{Request}
-use Rattle.master.specs.Build.{task_area, built_of}
+use Rattle.master.specs.Build.{task_area, length_in, built_of}
 use Rattle.claims_known.specs.Telegrams.{setup, two_words, status, request1082, table1082, task1082, value1082, error1082}
 use Rattle.slave_answers.specs.SlaveNumbers.{answer_number}
 use Rattle.build_answers.specs.BuildNumbers.{built_number}
@@ -42,7 +41,7 @@ printed = (xor_all (0x02 ∷ 0xD6 ∷ []) ∷ [], 0xD4 ∷ [])
 abbrev pub built : Request → List ℕ
 built request =
     let o = built_of setup request [] buffer in
-    built_number o.built.answer ∷ o.built.length ∷ take o.built.length o.out
+    built_number o.built ∷ length_in o.built ∷ take (length_in o.built) o.out
 
 abbrev pub k2 : Case
 k2 = (built request1082, 0 ∷ 16 ∷ task1082 0x0E 0x7A)
@@ -51,7 +50,7 @@ k2 = (built request1082, 0 ∷ 16 ∷ task1082 0x0E 0x7A)
 
 abbrev pub call : List ℕ → List ℕ → List ℕ → Outcome
 call table values received =
-    call_of (record { setup = setup; table = table; memory = record { values = values }; list = Unlisted; control = two_words 0 0; status = status; received = received; buffer = buffer })
+    call_of (record { setup = setup; table = table; memory = record { values = values }; list = None; control = two_words 0 0; status = status; received = received; buffer = buffer })
 
 -- the answer's number, the reply's length, and the reply
 abbrev pub shown : Outcome → List ℕ
@@ -114,7 +113,7 @@ broadcast selector mask first second =
 -- the answer's number, the reply's length, and the four control words, from 047E 1111
 abbrev pub commanded : List ℕ → List ℕ
 commanded received =
-    let o = call_of (record { setup = setup; table = []; memory = record { values = [] }; list = Unlisted; control = two_words 0x047E 0x1111; status = status; received = received; buffer = buffer }) in
+    let o = call_of (record { setup = setup; table = []; memory = record { values = [] }; list = None; control = two_words 0x047E 0x1111; status = status; received = received; buffer = buffer }) in
     answer_number o.served.answer ∷ o.served.length ∷ words_of o.served.control
 
 abbrev pub k9 : Case

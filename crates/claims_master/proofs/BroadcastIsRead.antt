@@ -8,15 +8,17 @@ use native.Mathlib.Omega.{arith}
 use borrow.Author.Tests.{not-true}
 use lib.Dec.{lit<}
 use lib.ListN.{length}
+use Rattle.std.specs.Prelude.{Result, Ok}
 use Rattle.rows.proofs.BoolLaws.{and_left}
 use Rattle.words.specs.Words.{word_at}
 use Rattle.words.specs.declared.Words.{Words}
 use Rattle.setup.specs.declared.Setup.{Setup}
 use Rattle.setup.specs.SetupRules.{setup_ok}
 use Rattle.setup.proofs.SetupLaws.{Configured, ok_configured, Wide, area_sized, area_wide}
-use Rattle.address.specs.Address.{decoded_of, kind_of}
+use Rattle.address.specs.Address.{decoded_of, addressed}
 use Rattle.address.specs.declared.Address.{Address}
-use Rattle.address.specs.declared.Decoded.TheVariants.{Broadcast as BroadcastTelegram}
+use Rattle.address.specs.declared.Fault.{Fault}
+use Rattle.address.specs.declared.Telegram.TheVariants.{Broadcast as BroadcastTelegram}
 use Rattle.address.proofs.AddressLaws.{to_all}
 use Rattle.area.specs.declared.Area.{Area}
 use Rattle.area.specs.Net.{fixed_words}
@@ -61,8 +63,8 @@ command_words t n selector mask1 mask2 (inr e) m s =
     rw e (λ i. record { selector = w1 i; mask1 = w2 i; mask2 = w3 i; fourth = w4 i })
 
 taken_of : (k : Call) {c c' : Command} {p p' : Words} → c ≡ c' → p ≡ p'
-    → ◌≡◌ {A = Outcome} (record { served = record { answer = Taken; length = 0; control = control_after c k.control p }; memory = k.memory; reply = k.buffer })
-    (record { served = record { answer = Taken; length = 0; control = control_after c' k.control p' }; memory = k.memory; reply = k.buffer })
+    → ◌≡◌ {A = Outcome} (record { served = record { answer = Ok Taken; length = 0; control = control_after c k.control p }; memory = k.memory; reply = k.buffer })
+    (record { served = record { answer = Ok Taken; length = 0; control = control_after c' k.control p' }; memory = k.memory; reply = k.buffer })
 taken_of k e f = rw (e, f)
 
 module _ (k : Call) (selector mask1 mask2 : ℕ) (process : Words) where
@@ -88,9 +90,9 @@ module _ (k : Call) (selector mask1 mask2 : ℕ) (process : Words) where
       let counted = command_counted (at_node node s) in
       let f = not_void_commands (command_of selector mask1 mask2) s.pkw s.pzd process.w1 v in
       let h : Headed a = record { pke_word = omega (arith, f.selects); ind_word = m1 } in
-      let d : decoded_of rx ≡ BroadcastTelegram =
+      let d : decoded_of rx ≡ Ok BroadcastTelegram =
       telegram_decoded 32 (net_for s p a process) (net_some (at_node node s) p c counted a process) (net_fits (at_node node s) p c counted a process)
-      ∙ ap (λ (x : Address). kind_of x (length (net_for s p a process) + 3)) to_all in
+      ∙ ap (λ (x : Result Address Fault). addressed x (length (net_for s p a process) + 3)) to_all in
       let own = own_count (at_node node s) p c counted a process 32 in
       let sized = area_sized (at_node node s) n c in
       let said = command_words rx p selector mask1 mask2 (area_wide (at_node node s) n c f.areas) m2 (area_stands 32 a p process s.pzd h g) in
@@ -107,7 +109,7 @@ module _ (k : Call) (selector mask1 mask2 : ℕ) (process : Words) where
         process_is = words;
         first = one;
         not_void = sound;
-        served = executed (receiving k rx) BroadcastTelegram d ∙ broadcast_taken n (receiving k rx) own sound ∙ taken_of k said (words k.control);
+        served = executed (receiving k rx) (Ok BroadcastTelegram) d ∙ broadcast_taken n (receiving k rx) own sound ∙ taken_of k said (words k.control);
       }
 
   pub broadcast_is_read : (node : ℕ) (net : List ℕ) → setup_ok (at_node node s) ≡ true → expressible (at_node node s) (Broadcast selector mask1 mask2 process) net ≡ true

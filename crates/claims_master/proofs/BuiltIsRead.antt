@@ -4,11 +4,11 @@ use mathlib.Core.Path.{◌≡◌, ◌∙◌}
 use mathlib.Core.List.{List}
 use Prim.Native.Nat.{ℕ}
 use lib.ListN.{take}
+use Rattle.std.specs.Prelude.{true, is_ok}
 use Rattle.request.specs.declared.Request.{Request}
 use Rattle.request.specs.declared.Request.TheVariants.{Task, Mirror, Broadcast}
 use Rattle.slave.specs.Slave.{Call}
-use Rattle.build_answers.specs.declared.BuildAnswer.TheVariants.{Done}
-use Rattle.master.specs.Build.{telegram_for, built_of}
+use Rattle.master.specs.Build.{telegram_for, length_in, built_of}
 use Rattle.master.proofs.BuildLaws.{Buildable, done_buildable}
 use Rattle.claims_master.specs.Claims.{ReadAs, Typed}
 use Rattle.claims_master.proofs.BuiltPasses.{built_passes}
@@ -25,6 +25,6 @@ module _ (k : Call) (net buffer : List ℕ) where
   telegram_is_read (Broadcast selector mask1 mask2 process) b t e =
       broadcast_is_read k selector mask1 mask2 process k.setup.node net b.passed.setup_good b.passed.asked t.0 t.1 t.2 e
 
-  pub built_is_read : (r : Request) → (built_of k.setup r net buffer).built.answer ≡ Done → Typed r
-      → k.received ≡ take (built_of k.setup r net buffer).built.length (built_of k.setup r net buffer).out → ReadAs k r net
+  pub built_is_read : (r : Request) → is_ok (built_of k.setup r net buffer).built ≡ true → Typed r
+      → k.received ≡ take (length_in (built_of k.setup r net buffer).built) (built_of k.setup r net buffer).out → ReadAs k r net
   built_is_read r done t e = telegram_is_read r (done_buildable k.setup r net buffer done) t (e ∙ (built_passes k.setup r net buffer done).there)

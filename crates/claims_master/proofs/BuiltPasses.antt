@@ -6,8 +6,8 @@ use mathlib.Core.List.{List}
 use Prim.Native.Nat.{ℕ, ◌+◌, ◌-◌, ◌≤◌}
 use native.Mathlib.Omega.{arith}
 use lib.ListN.{length}
+use Rattle.std.specs.Prelude.{Ok, is_ok}
 use Rattle.frame.specs.Frame.{frame_of}
-use Rattle.frame.specs.declared.FrameCheck.TheVariants.{Sound}
 use Rattle.setup.specs.declared.Setup.{Setup}
 use Rattle.setup.specs.SetupRules.{setup_ok}
 use Rattle.setup.proofs.SetupLaws.{ok_configured}
@@ -17,7 +17,6 @@ use Rattle.request.specs.declared.Request.{Request}
 use Rattle.request.specs.declared.Request.TheVariants.{Task, Mirror, Broadcast}
 use Rattle.request.specs.Request.{expressible}
 use Rattle.request.proofs.RequestLaws.{mirror_asked}
-use Rattle.build_answers.specs.declared.BuildAnswer.TheVariants.{Done}
 use Rattle.master.specs.Build.{task_area, command_area, task_count, command_count, net_for, telegram_for, sent, built_of}
 use Rattle.master.proofs.BuildLaws.{done_buildable, task_counted, command_counted}
 use Rattle.claims_master.specs.Claims.{SoundBuild}
@@ -25,14 +24,14 @@ use Rattle.claims_master.proofs.SentLaws.{net_some, net_fits}
 
 -- a telegram has a sound frame and at most 256 bytes
 pub record SoundTelegram (t : List ℕ) : Type 0 where
-  pub frame : frame_of t ≡ Sound (length t - 1)
+  pub frame : frame_of t ≡ Ok (length t - 1)
   pub few : length t ≤ 256
 
 telegram_sound : (adr : ℕ) (net : List ℕ) → 1 ≤ length net → length net ≤ 252 → SoundTelegram (telegram_of adr net)
 telegram_sound adr net some fits =
     let long = length_telegram adr net in
     let last : length net + 3 ≡ length (telegram_of adr net) - 1 = omega arith in
-    record { frame = telegram_passes adr net some fits ∙ ap Sound last; few = omega arith }
+    record { frame = telegram_passes adr net some fits ∙ ap Ok last; few = omega arith }
 
 pub request_sound : (s : Setup) (r : Request) (net : List ℕ) → setup_ok s ≡ true → expressible s r net ≡ true → SoundTelegram (telegram_for s r net)
 unfolding telegram_for
@@ -61,7 +60,7 @@ sent_passes s r net out f room =
       whole = written_long out t (omega (arith, f.few));
     }
 
-pub built_passes : (s : Setup) (r : Request) (net out : List ℕ) → (built_of s r net out).built.answer ≡ Done → SoundBuild s r net out (built_of s r net out)
+pub built_passes : (s : Setup) (r : Request) (net out : List ℕ) → is_ok (built_of s r net out).built ≡ true → SoundBuild s r net out (built_of s r net out)
 built_passes s r net out e =
     let b = done_buildable s r net out e in
     rw b.is (sent_passes s r net out (request_sound s r net b.passed.setup_good b.passed.asked) b.passed.enough)

@@ -4,9 +4,11 @@ use mathlib.Core.Bool.{true}
 use mathlib.Core.List.{List}
 use Prim.Native.Nat.{ℕ, ◌+◌}
 use lib.ListN.{length}
-use Rattle.address.specs.Address.{decoded_of, kind_of}
+use Rattle.std.specs.Prelude.{Result, Ok}
+use Rattle.address.specs.Address.{decoded_of, addressed}
 use Rattle.address.specs.declared.Address.{Address}
-use Rattle.address.specs.declared.Decoded.TheVariants.{Mirror as MirrorTelegram}
+use Rattle.address.specs.declared.Fault.{Fault}
+use Rattle.address.specs.declared.Telegram.TheVariants.{Mirror as MirrorTelegram}
 use Rattle.address.proofs.AddressLaws.{to_mirror}
 use Rattle.setup.specs.SetupRules.{setup_ok}
 use Rattle.setup.proofs.SetupLaws.{ok_configured, node_own}
@@ -27,11 +29,11 @@ module _ (k : Call) (net : List ℕ) where
       let node = k.setup.node in
       let m = mirror_asked k.setup net asked in
       let rx = telegram_of (node + 64) net in
-      let d : decoded_of rx ≡ MirrorTelegram node =
-      telegram_decoded (node + 64) net m.0 m.1 ∙ ap (λ (a : Address). kind_of a (length net + 3)) (to_mirror node (ok_configured k.setup ok).nodes) in
+      let d : decoded_of rx ≡ Ok (MirrorTelegram node) =
+      telegram_decoded (node + 64) net m.0 m.1 ∙ ap (λ (a : Result Address Fault). addressed a (length net + 3)) (to_mirror node (ok_configured k.setup ok).nodes) in
       subst (λ (t : List ℕ). MirrorRead (receiving k t) net) (sym e)
       (record {
         decoded = d;
         net_is = net_back (node + 64) net m.0 m.1;
-        served = executed (receiving k rx) (MirrorTelegram node) d ∙ mirror_sent node (receiving k rx) (node_own k.setup node refl);
+        served = executed (receiving k rx) (Ok (MirrorTelegram node)) d ∙ mirror_sent node (receiving k rx) (node_own k.setup node refl);
       })

@@ -4,10 +4,12 @@ use mathlib.Core.Bool.{false}
 use Prim.Native.Nat.{ℕ, ◌+◌, ◌*◌, ◌≤◌}
 use native.Mathlib.Omega.{arith}
 use lib.ListN.{length}
+use Rattle.std.specs.Prelude.{Result, Ok}
 use Rattle.words.specs.declared.Words.{Words}
-use Rattle.address.specs.Address.{decoded_of, kind_of}
+use Rattle.address.specs.Address.{decoded_of, addressed}
 use Rattle.address.specs.declared.Address.{Address}
-use Rattle.address.specs.declared.Decoded.TheVariants.{Normal}
+use Rattle.address.specs.declared.Fault.{Fault}
+use Rattle.address.specs.declared.Telegram.TheVariants.{Normal}
 use Rattle.address.proofs.AddressLaws.{to_one}
 use Rattle.setup.specs.declared.Setup.{Setup}
 use Rattle.setup.specs.SetupRules.{other_length}
@@ -46,9 +48,9 @@ module _ (s : Setup) (k : ℕ) (c : Configured s) (counted : Counted s k) (a : A
   own_count adr = subst (λ (m : ℕ). other_length s m ≡ false) (sym (net_in_lem adr)) (words_own s n (ap (λ (m : ℕ). (m + s.pzd) * 2) (sym counted)))
 
   -- to the set-up's node, a normal telegram
-  pub normal_decoded : decoded_of (telegram_of s.node (net_for s k a w)) ≡ Normal s.node 3 (net_in (telegram_of s.node (net_for s k a w)) + 3)
+  pub normal_decoded : decoded_of (telegram_of s.node (net_for s k a w)) ≡ Ok (Normal s.node 3 (net_in (telegram_of s.node (net_for s k a w)) + 3))
   normal_decoded =
       let t = telegram_of s.node (net_for s k a w) in
       let last : length (net_for s k a w) + 3 ≡ net_in t + 3 = omega (arith, length_telegram s.node (net_for s k a w)) in
-      telegram_decoded s.node (net_for s k a w) net_some net_fits ∙ ap (λ (x : Address). kind_of x (length (net_for s k a w) + 3)) (to_one s.node c.nodes)
-      ∙ ap (λ (e : ℕ). Normal s.node 3 e) last
+      telegram_decoded s.node (net_for s k a w) net_some net_fits ∙ ap (λ (x : Result Address Fault). addressed x (length (net_for s k a w) + 3)) (to_one s.node c.nodes)
+      ∙ ap (λ (e : ℕ). Ok (Normal s.node 3 e)) last

@@ -6,13 +6,14 @@ use Prim.Native.Nat.{ℕ, ◌+◌, ◌-◌, ◌*◌, ◌/◌, ◌%◌, ◌^◌, 
 use native.Mathlib.Omega.{arith}
 use borrow.Author.Tests.{eqb-false}
 use lib.Dec.{eqb}
+use Rattle.std.specs.Prelude.{Ok}
 use Rattle.rows.proofs.BoolLaws.{and_left}
 use Rattle.words.specs.declared.Words.{Words}
 use Rattle.setup.specs.declared.Setup.{Setup}
 use Rattle.setup.specs.SetupRules.{setup_ok, area_count, other_length}
 use Rattle.setup.proofs.SetupLaws.{Configured, ok_configured, area_few, area_sized, area_words_lem, Counted, node_own}
 use Rattle.address.specs.Address.{decoded_of}
-use Rattle.address.specs.declared.Decoded.TheVariants.{Normal}
+use Rattle.address.specs.declared.Telegram.TheVariants.{Normal}
 use Rattle.area.specs.declared.Area.{Area}
 use Rattle.area.specs.Read.{empty_area, area_at, Worded, first_words}
 use Rattle.area.proofs.WordLaws.{Headed}
@@ -46,12 +47,12 @@ control_of true x y p q control h e = refl
 control_of false x y p q control h e = rw (h refl, e)
 
 -- a slave replies to a telegram that is decoded as normal with its node and its length
-pub normal_served : (k : Call) → decoded_of k.received ≡ Normal k.setup.node 3 (net_in k.received + 3) → other_length k.setup (net_in k.received) ≡ false
+pub normal_served : (k : Call) → decoded_of k.received ≡ Ok (Normal k.setup.node 3 (net_in k.received + 3)) → other_length k.setup (net_in k.received) ≡ false
     → execute_of k ≡ normal_outcome (net_in k.received) k
 normal_served k d own =
     let n = net_in k.received in
     let same : n + 3 - 3 ≡ n = omega arith in
-    executed k (Normal k.setup.node 3 (n + 3)) d
+    executed k (Ok (Normal k.setup.node 3 (n + 3))) d
     ∙ rw same (normal_replied k.setup.node n k (node_own k.setup k.setup.node refl) own)
 
 -- the task of an area that is read

@@ -7,13 +7,12 @@
 --     BroadcastRead k ..    the call takes its bytes as this broadcast
 --     ReadAs k r net        the call reads its bytes as the request r
 --     Typed r               the fields of a request fit their types
-use Rattle.std.specs.Prelude.{◌≡◌, true, false, not, ◌&&◌, cond, List, ℕ, ◌+◌, ◌-◌, ◌/◌, ◌%◌, ◌≤◌, ◌<◌, eqb, length, take, drop}
+use Rattle.std.specs.Prelude.{◌≡◌, true, false, not, ◌&&◌, cond, List, ℕ, ◌+◌, ◌-◌, ◌/◌, ◌%◌, ◌≤◌, ◌<◌, eqb, length, take, drop, Ok}
 use Rattle.rows.specs.Bits.{bit}
 use Rattle.words.specs.declared.Words.{Words}
 use Rattle.frame.specs.Frame.{frame_of, last_of}
 use Rattle.address.specs.Address.{decoded_of}
-use Rattle.frame.specs.declared.FrameCheck.TheVariants.{Sound}
-use Rattle.address.specs.declared.Decoded.TheVariants.{Normal, Mirror as MirrorTelegram, Broadcast as BroadcastTelegram}
+use Rattle.address.specs.declared.Telegram.TheVariants.{Normal, Mirror as MirrorTelegram, Broadcast as BroadcastTelegram}
 use Rattle.setup.specs.declared.Setup.{Setup}
 use Rattle.setup.specs.SetupRules.{other_length}
 use Rattle.area.specs.Read.{empty_area, area_at, first_words, Worded}
@@ -26,18 +25,18 @@ use Rattle.request.specs.Request.{command_of}
 use Rattle.slave.specs.Slave.{Call, net_in, count_in, task_at, normal_outcome, mirror_outcome, execute_of}
 use Rattle.slave.specs.Perform.{perform_of}
 use Rattle.slave_answers.specs.declared.Answer.TheVariants.{Taken}
-use Rattle.master.specs.Build.{BuildOutcome, task_area, telegram_for}
+use Rattle.master.specs.Build.{BuildOutcome, length_in, task_area, telegram_for}
 
 -- of the outcome o of a build into the buffer out
 pub record SoundBuild (s : Setup) (r : Request) (net out : List ℕ) (o : BuildOutcome) : Type 0 where
   -- the reported bytes are the telegram
-  pub there : take o.built.length o.out ≡ telegram_for s r net
-  pub long : o.built.length ≡ length (telegram_for s r net)
-  pub fits : o.built.length ≤ 256
+  pub there : take (length_in o.built) o.out ≡ telegram_for s r net
+  pub long : length_in o.built ≡ length (telegram_for s r net)
+  pub fits : length_in o.built ≤ 256
   -- it passes the frame check
-  pub passes : frame_of (telegram_for s r net) ≡ Sound (o.built.length - 1)
+  pub passes : frame_of (telegram_for s r net) ≡ Ok (length_in o.built - 1)
   -- the buffer behind it is as it was
-  pub behind : drop o.built.length o.out ≡ drop o.built.length out
+  pub behind : drop (length_in o.built) o.out ≡ drop (length_in o.built) out
   pub whole : length o.out ≡ length out
 
 -- the same set-up at another node
@@ -46,7 +45,7 @@ at_node node s = record { node = node; pkw = s.pkw; pzd = s.pzd }
 
 pub record TaskRead (k : Call) (id number index value : ℕ) (process : Words) : Type 0 where
   -- a normal telegram of the slave's node and length
-  pub decoded : decoded_of k.received ≡ Normal k.setup.node 3 (net_in k.received + 3)
+  pub decoded : decoded_of k.received ≡ Ok (Normal k.setup.node 3 (net_in k.received + 3))
   pub own_length : other_length k.setup (net_in k.received) ≡ false
   -- the area that it reads, where there is one: task ID, number, index and value are those that were asked
   pub area : (count_in k ≡ 0 → ⊥) → area_at k.received (count_in k) ≡ task_area id number index value
@@ -66,12 +65,12 @@ pub record TaskRead (k : Call) (id number index value : ℕ) (process : Words) :
       ≡ cond (not (eqb k.setup.pzd 0) && eqb (bit 10 process.w1) 1) (first_words k.setup.pzd process k.control) k.control
 
 pub record MirrorRead (k : Call) (net : List ℕ) : Type 0 where
-  pub decoded : decoded_of k.received ≡ MirrorTelegram k.setup.node
+  pub decoded : decoded_of k.received ≡ Ok (MirrorTelegram k.setup.node)
   pub net_is : drop 3 (take (last_of k.received) k.received) ≡ net
   pub served : execute_of k ≡ mirror_outcome k
 
 pub record BroadcastRead (k : Call) (selector mask1 mask2 : ℕ) (process : Words) : Type 0 where
-  pub decoded : decoded_of k.received ≡ BroadcastTelegram
+  pub decoded : decoded_of k.received ≡ Ok BroadcastTelegram
   pub own_length : other_length k.setup (net_in k.received) ≡ false
   pub command : command_in k.setup (net_in k.received) k.received ≡ command_of selector mask1 mask2
   pub process_is : (old : Words) → process_in k.setup (net_in k.received) old k.received ≡ first_words k.setup.pzd process old
@@ -80,7 +79,7 @@ pub record BroadcastRead (k : Call) (selector mask1 mask2 : ℕ) (process : Word
   -- it takes the masked bits of the words that were sent, and replies nothing
   pub served : execute_of k
       ≡ record {
-        served = record { answer = Taken; length = 0; control = control_after (command_of selector mask1 mask2) k.control (first_words k.setup.pzd process k.control) };
+        served = record { answer = Ok Taken; length = 0; control = control_after (command_of selector mask1 mask2) k.control (first_words k.setup.pzd process k.control) };
         memory = k.memory;
         reply = k.buffer;
       }

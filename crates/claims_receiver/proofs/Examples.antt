@@ -6,9 +6,9 @@ use mathlib.Core.Path.{◌≡◌, refl}
 use Prim.Native.Nat.{ℕ}
 use mathlib.Core.List.{List, [], ◌∷◌, map}
 use lib.ListN.{replicate}
+use Rattle.std.specs.Prelude.{Ok}
 use Rattle.bcc.specs.Bcc.{xor_all}
 use Rattle.frame.specs.Frame.{frame_of}
-use Rattle.frame.specs.declared.FrameCheck.TheVariants.{Sound}
 use Rattle.step.specs.Step.{step_of}
 use Rattle.claims_receiver.specs.Telegrams.{bytes_in, telegrams_in}
 use Rattle.claims_receiver.specs.Heard.{heard_of}
@@ -25,6 +25,6 @@ pub known_in_items : map (λ (e : Example). telegrams_in 256 e.items) examples �
 unfolding bytes_in telegrams_in
 known_in_items = refl
 
-pub lge_hit_lem : (telegrams_in 256 lge_hit ≡ lge_hit_out ∷ []) × (frame_of lge_hit_out ≡ Sound 5)
+pub lge_hit_lem : (telegrams_in 256 lge_hit ≡ lge_hit_out ∷ []) × (frame_of lge_hit_out ≡ Ok 5)
 unfolding bytes_in telegrams_in frame_of xor_all
 lge_hit_lem = (refl, refl)

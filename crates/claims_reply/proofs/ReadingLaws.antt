@@ -4,11 +4,13 @@ use mathlib.Core.List.{List}
 use Prim.Native.Nat.{ℕ, ◌+◌, ◌-◌}
 use native.Mathlib.Omega.{arith}
 use borrow.Author.Tests.{eq-eqb, ne_eqb}
+use Rattle.std.specs.Prelude.{Result, Ok}
 use Rattle.words.specs.declared.Words.{Words}
 use Rattle.setup.specs.declared.Setup.{Setup}
 use Rattle.setup.specs.SetupRules.{area_count}
 use Rattle.setup.proofs.SetupLaws.{Configured, area_sized, Counted, node_own}
-use Rattle.address.specs.declared.Decoded.{Decoded}
+use Rattle.address.specs.declared.Telegram.{Telegram}
+use Rattle.address.specs.declared.Fault.{Fault}
 use Rattle.area.specs.declared.Area.{Area}
 use Rattle.area.specs.Read.{Worded, first_words}
 use Rattle.area.proofs.WordLaws.{Headed}
@@ -17,7 +19,6 @@ use Rattle.net.proofs.ReadLaws.{process_back}
 use Rattle.slave.specs.Slave.{net_in}
 use Rattle.master.specs.Build.{net_for}
 use Rattle.read_answers.specs.declared.Content.TheVariants.{Empty}
-use Rattle.read_answers.specs.declared.ReadAnswer.TheVariants.{Read}
 use Rattle.content.specs.declared.Question.{Question}
 use Rattle.content.specs.Content.{reply_content}
 use Rattle.reply.specs.Reply.{zero_words, read_normal, read_decoded, read_task}
@@ -44,10 +45,10 @@ module _ (s : Setup) (m : ℕ) (c : Configured s) (p : Area) (status : Words) (h
   unfolding read_task
   read_is =
       let same : n + 3 - 3 ≡ n = omega arith in
-      ap (λ (d : Decoded). read_decoded d s q reply_telegram) (normal_decoded s w c reply_counted p status) ∙ ap (λ (x : ℕ). read_normal s q reply_telegram s.node x) same
+      ap (λ (d : Result Telegram Fault). read_decoded d s q reply_telegram) (normal_decoded s w c reply_counted p status) ∙ ap (λ (x : ℕ). read_normal s q reply_telegram s.node x) same
 
   -- without an area
-  pub read_none : w ≡ 0 → read_task s q reply_telegram ≡ record { answer = Read Empty; process = first_words s.pzd status zero_words }
+  pub read_none : w ≡ 0 → read_task s q reply_telegram ≡ Ok (record { content = Empty; process = first_words s.pzd status zero_words })
   unfolding read_normal
   read_none e =
       read_is
@@ -60,7 +61,7 @@ module _ (s : Setup) (m : ℕ) (c : Configured s) (p : Area) (status : Words) (h
 
   -- with an area that is a reply to the task
   pub read_area : (w ≡ 0 → ⊥) → Replies w q p
-      → read_task s q reply_telegram ≡ record { answer = Read (reply_content q.id p); process = first_words s.pzd status zero_words }
+      → read_task s q reply_telegram ≡ Ok (record { content = reply_content q.id p; process = first_words s.pzd status zero_words })
   unfolding read_normal
   read_area some r =
       read_is

@@ -12,7 +12,7 @@ use Rattle.rows.proofs.BoolLaws.{and_left}
 use Rattle.words.specs.declared.Words.{Words}
 use Rattle.setup.specs.declared.Setup.{Setup}
 use Rattle.setup.proofs.SetupLaws.{Configured, ok_configured, area_wide}
-use Rattle.opening.specs.declared.Opening.TheVariants.{Passed}
+use Rattle.opening.specs.Answers.{passed}
 use Rattle.opening.proofs.AnswersLaws.{passed_opened}
 use Rattle.area.specs.declared.Area.{Area}
 use Rattle.area.specs.Read.{empty_area, Worded}
@@ -40,7 +40,7 @@ asking id number index = record { id = id; number = number; index = index }
 
 -- ---- what the slave answers to the task
 
-module _ (k : Call) (id number index value : ℕ) (c : Configured k.setup) (passed : opening_at k ≡ Passed) (fits : task_fits k.setup.pkw id number index value ≡ true)
+module _ (k : Call) (id number index value : ℕ) (c : Configured k.setup) (opened : opening_at k ≡ passed) (fits : task_fits k.setup.pkw id number index value ≡ true)
     (v : value < 4294967296) (small : (i : ℕ) → get_or k.memory.values i 0 < 4294967296) where
   abbrev s : Setup
   s = k.setup
@@ -65,7 +65,7 @@ module _ (k : Call) (id number index value : ℕ) (c : Configured k.setup) (pass
       let f = carried_of s id number index value c fits v in
       let back : a.pke / 4096 ≡ id = id_back id number in
       let held = subst (λ (i : ℕ). value_fits (task_of i).act (task_of i).width s.pkw value ≡ true) (sym back) asked.values in
-      let r = task_answers (lent_by k) s.pkw a (area_wide s (net_in k.received) c some) v small held passed (λ e. asked.some (sym back ∙ e)) in
+      let r = task_answers (lent_by k) s.pkw a (area_wide s (net_in k.received) c some) v small held opened (λ e. asked.some (sym back ∙ e)) in
       let is = r.is ∙ reply_echoes id number index value r.reply_id r.content f.numbers f.indices in
       rw is (suited_replies s.pkw id number index r.reply_id r.content asked.some f.numbers f.indices (subst (λ (i : ℕ). Suits s.pkw i r.reply_id r.content) back r.suits))
 
@@ -86,11 +86,11 @@ module _ (k : Call) (id number index value : ℕ) (process : Words) (net : List 
   abbrev did : Performed
   did = perform_of k.setup.pkw k.table k.memory (task_area id number index value)
 
-  reply_of_task : Configured k.setup → opening_at k ≡ Passed → task_fits k.setup.pkw id number index value ≡ true → value < 4294967296 → Worded k.status
+  reply_of_task : Configured k.setup → opening_at k ≡ passed → task_fits k.setup.pkw id number index value ≡ true → value < 4294967296 → Worded k.status
       → ((i : ℕ) → get_or k.memory.values i 0 < 4294967296) → TaskRead k id number index value process
       → ReplyRead k (read_task k.setup (asking id number index) (reply_at (net_in k.received) k))
   unfolding reply_of
-  reply_of_task c passed fits v g small t = go (eqb k.setup.pkw 0) refl
+  reply_of_task c opened fits v g small t = go (eqb k.setup.pkw 0) refl
     where
       go : (b : Bool) → eqb k.setup.pkw 0 ≡ b → ReplyRead k (read_task k.setup (asking id number index) (reply_at (net_in k.received) k))
       go true e =
@@ -101,7 +101,7 @@ module _ (k : Call) (id number index value : ℕ) (process : Words) (net : List 
       go false e =
           let some = eqb-false k.setup.pkw 0 e in
           let is : area_done k ≡ did.area = ap (λ (x : Performed). x.area) t.performed ∙ ap (λ (b : Bool). (cond b none did).area) e in
-          let r = performed_replies k id number index value c passed fits v small some in
+          let r = performed_replies k id number index value c opened fits v small some in
           let read = read_area k.setup (net_in k.received) c did.area k.status r.heads g (asking id number index) some r in
           rw (is, read) (record {
             number_is = refl;
@@ -111,12 +111,12 @@ module _ (k : Call) (id number index value : ℕ) (process : Words) (net : List 
             not_8 = λ z. r.not_8 (sym r.same_id ∙ z);
           })
 
-  pub reply_is_read : opening_at k ≡ Passed → expressible k.setup (Task id number index value process) net ≡ true → value < 4294967296 → Worded process → Worded k.status
+  pub reply_is_read : opening_at k ≡ passed → expressible k.setup (Task id number index value process) net ≡ true → value < 4294967296 → Worded process → Worded k.status
       → ((i : ℕ) → get_or k.memory.values i 0 < 4294967296) → k.received ≡ telegram_for k.setup (Task id number index value process) net
       → ReplyRead k (read_of k.setup (Task id number index value process) (reply_at (net_in k.received) k))
   unfolding read_of expressible
-  reply_is_read passed asked v w g small e =
-      let ok = (passed_opened (lent_by k) passed).setup_good in
+  reply_is_read opened asked v w g small e =
+      let ok = (passed_opened (lent_by k) opened).setup_good in
       let t = task_is_read k id number index value process net ok asked v w e in
       let fits = and_left (task_fits k.setup.pkw id number index value) (unused_zero k.setup.pzd process) asked in
-      rw (ok, asked) (reply_of_task (ok_configured k.setup ok) passed fits v g small t)
+      rw (ok, asked) (reply_of_task (ok_configured k.setup ok) opened fits v g small t)

@@ -1,6 +1,6 @@
 -- Any two outcomes that the contract of a public function allows are equal: the result, and each lent slice afterwards. An instance is
--- named after crate, function and, for a slice, its parameter; a function for C stands without its crate. `F.Post` is the contract of
--- F as its source states it. Assumes nothing.
+-- named after crate, function and, for a slice, its parameter; a function for C stands without its crate, and a `From` has its types.
+-- `F.Post` is the contract of F as its source states it. Assumes nothing.
 use mathlib.Core.Path.{◌≡◌, sym, ap, ◌∙◌}
 use mathlib.Core.List.{[]}
 use Rattle.opening.specs.Lent.{Memory}
@@ -15,15 +15,21 @@ use Rattle.receiver.proofs.receive.Reads as receiver-receive
 use Rattle.receiver.proofs.receive_bytes.Reads as receiver-receive-bytes
 use Rattle.receiver.proofs.pause.Reads as receiver-pause
 use Rattle.frame.proofs.check.Reads as frame-check
+use Rattle.frame.proofs.U32FromFrameFault.from.Reads as frame-number-of-frame-fault
 use Rattle.address.proofs.decode.Reads as address-decode
 use Rattle.address.proofs.decode_found.Reads as address-decode-found
-use Rattle.address.proofs.number_fault.Reads as address-number-fault
-use Rattle.slave_answers.proofs.number_opening.Reads as slave-answers-number-opening
-use Rattle.slave_answers.proofs.number_answer.Reads as slave-answers-number-answer
-use Rattle.build_answers.proofs.number_built.Reads as build-answers-number-built
-use Rattle.read_answers.proofs.number_read_fault.Reads as read-answers-number-read-fault
-use Rattle.read_answers.proofs.content_id.Reads as read-answers-content-id
-use Rattle.read_answers.proofs.content_value.Reads as read-answers-content-value
+use Rattle.address.proofs.FaultFromFrameFault.from.Reads as address-fault-from-frame-fault
+use Rattle.address.proofs.U32FromFault.from.Reads as address-number-of-fault
+use Rattle.slave_answers.proofs.U32FromOpeningFault.from.Reads as slave-answers-number-of-opening-fault
+use Rattle.slave_answers.proofs.RefusalFromOpeningFault.from.Reads as slave-answers-refusal-from-opening-fault
+use Rattle.slave_answers.proofs.RefusalFromFault.from.Reads as slave-answers-refusal-from-fault
+use Rattle.slave_answers.proofs.U32FromRefusal.from.Reads as slave-answers-number-of-refusal
+use Rattle.slave_answers.proofs.U32FromAnswer.from.Reads as slave-answers-number-of-answer
+use Rattle.build_answers.proofs.U32FromBuildFault.from.Reads as build-answers-number-of-build-fault
+use Rattle.read_answers.proofs.ReadFaultFromFault.from.Reads as read-answers-read-fault-from-fault
+use Rattle.read_answers.proofs.U32FromReadFault.from.Reads as read-answers-number-of-read-fault
+use Rattle.read_answers.proofs.Content.id.Reads as read-answers-content-id
+use Rattle.read_answers.proofs.Content.value.Reads as read-answers-content-value
 use Rattle.setup.proofs.setup_ok.Reads as setup-setup-ok
 use Rattle.setup.proofs.area_count.Reads as setup-area-count
 use Rattle.setup.proofs.is_other_length.Reads as setup-is-other-length
@@ -34,16 +40,20 @@ use Rattle.limits.proofs.at_most.Reads as limits-at-most
 use Rattle.limits.proofs.within.Reads as limits-within
 use Rattle.limits.proofs.entry_ok.Reads as limits-entry-ok
 use Rattle.table.proofs.record_of.Reads as table-record-of
+use Rattle.table.proofs.entry_in.Reads as table-entry-in
 use Rattle.table.proofs.find.Reads as table-find
-use Rattle.opening.proofs.«open».Reads as opening-open
+use Rattle.opening.proofs.Drive.«open».Reads as opening-drive-open
 use Rattle.table_check.proofs.check_table.Reads as table-check-check-table
 use Rattle.table_check.proofs.is_table.Reads as table-check-is-table
+use Rattle.table_check.proofs.OpeningFaultFromRule.from.Reads as table-check-opening-fault-from-rule
+use Rattle.table_check.proofs.U32FromRule.from.Reads as table-check-number-of-rule
 use Rattle.places.proofs.fill.Reads as places-fill
 use Rattle.view.proofs.first.Reads as view-first
 use Rattle.view.proofs.look.Reads as view-look
 use Rattle.view.proofs.next.Reads as view-next
 use Rattle.claims_view.specs.HeldTable.{NewPost, ShowPost, StepPost}
 use Rattle.figure.proofs.show.Reads as figure-show
+use Rattle.figure.proofs.U32FromFigureFault.from.Reads as figure-number-of-figure-fault
 use Rattle.host_figure.proofs.show.Reads as host-figure-show
 use Rattle.area.proofs.empty_area.Reads as area-empty-area
 use Rattle.area.proofs.read_area.Reads as area-read-area
@@ -54,7 +64,7 @@ use Rattle.page.proofs.page_of.Reads as page-page-of
 use Rattle.page.proofs.nibble_of.Reads as page-nibble-of
 use Rattle.page.proofs.full_number.Reads as page-full-number
 use Rattle.task.proofs.task_of.Reads as task-task-of
-use Rattle.errors.proofs.number_error.Reads as errors-number-error
+use Rattle.errors.proofs.U32FromParameterError.from.Reads as errors-number-of-parameter-error
 use Rattle.verdict.proofs.judge.Reads as verdict-judge
 use Rattle.verdict.proofs.pick_element.Reads as verdict-pick-element
 use Rattle.deed.proofs.deny.Reads as deed-deny
@@ -82,6 +92,7 @@ use Rattle.host_reply.proofs.read_reply.Reads as host-reply-read-reply
 use Rattle.text.proofs.count_digits.Reads as text-count-digits
 use Rattle.text.proofs.put_number.Reads as text-put-number
 use Rattle.listing.proofs.list.Reads as listing-list
+use Rattle.hex_lines.proofs.read_bytes.Reads as hex-lines-read-bytes
 use Rattle.uss_c.proofs.uss_receive.Reads as uss-receive
 use Rattle.uss_c.proofs.uss_receive_bytes.Reads as uss-receive-bytes
 use Rattle.uss_c.proofs.uss_pause.Reads as uss-pause
@@ -125,26 +136,44 @@ step_settle_one κs a r r' s s' = equal_through
 pub frame_check_one : OneResult frame-check.Post
 frame_check_one κs a r r' s s' = equal_through
 
+pub frame_number_of_frame_fault_one : OneResult frame-number-of-frame-fault.Post
+frame_number_of_frame_fault_one κs a r r' s s' = equal_through
+
 pub address_decode_one : OneResult address-decode.Post
 address_decode_one κs a r r' s s' = equal_through
 
 pub address_decode_found_one : OneResult address-decode-found.Post
 address_decode_found_one κs a r r' s s' = equal_through
 
-pub address_number_fault_one : OneResult address-number-fault.Post
-address_number_fault_one κs a r r' s s' = equal_through
+pub address_fault_from_frame_fault_one : OneResult address-fault-from-frame-fault.Post
+address_fault_from_frame_fault_one κs a r r' s s' = equal_through
 
-pub slave_answers_number_opening_one : OneResult slave-answers-number-opening.Post
-slave_answers_number_opening_one κs a r r' s s' = equal_through
+pub address_number_of_fault_one : OneResult address-number-of-fault.Post
+address_number_of_fault_one κs a r r' s s' = equal_through
 
-pub slave_answers_number_answer_one : OneResult slave-answers-number-answer.Post
-slave_answers_number_answer_one κs a r r' s s' = equal_through
+pub slave_answers_number_of_opening_fault_one : OneResult slave-answers-number-of-opening-fault.Post
+slave_answers_number_of_opening_fault_one κs a r r' s s' = equal_through
 
-pub build_answers_number_built_one : OneResult build-answers-number-built.Post
-build_answers_number_built_one κs a r r' s s' = equal_through
+pub slave_answers_refusal_from_opening_fault_one : OneResult slave-answers-refusal-from-opening-fault.Post
+slave_answers_refusal_from_opening_fault_one κs a r r' s s' = equal_through
 
-pub read_answers_number_read_fault_one : OneResult read-answers-number-read-fault.Post
-read_answers_number_read_fault_one κs a r r' s s' = equal_through
+pub slave_answers_refusal_from_fault_one : OneResult slave-answers-refusal-from-fault.Post
+slave_answers_refusal_from_fault_one κs a r r' s s' = equal_through
+
+pub slave_answers_number_of_refusal_one : OneResult slave-answers-number-of-refusal.Post
+slave_answers_number_of_refusal_one κs a r r' s s' = equal_through
+
+pub slave_answers_number_of_answer_one : OneResult slave-answers-number-of-answer.Post
+slave_answers_number_of_answer_one κs a r r' s s' = equal_through
+
+pub build_answers_number_of_build_fault_one : OneResult build-answers-number-of-build-fault.Post
+build_answers_number_of_build_fault_one κs a r r' s s' = equal_through
+
+pub read_answers_read_fault_from_fault_one : OneResult read-answers-read-fault-from-fault.Post
+read_answers_read_fault_from_fault_one κs a r r' s s' = equal_through
+
+pub read_answers_number_of_read_fault_one : OneResult read-answers-number-of-read-fault.Post
+read_answers_number_of_read_fault_one κs a r r' s s' = equal_through
 
 pub read_answers_content_id_one : OneResult read-answers-content-id.Post
 read_answers_content_id_one κs a r r' s s' = equal_through
@@ -182,17 +211,26 @@ limits_entry_ok_one κs a r r' s s' = equal_through
 pub table_record_of_one : OneResult table-record-of.Post
 table_record_of_one κs a r r' s s' = equal_through
 
+pub table_entry_in_one : OneResult table-entry-in.Post
+table_entry_in_one κs a r r' s s' = equal_through
+
 pub table_find_one : OneResult table-find.Post
 table_find_one κs a r r' s s' = equal_through
 
-pub opening_open_one : OneResult opening-open.Post
-opening_open_one κs a r r' s s' = equal_through
+pub opening_drive_open_one : OneResult opening-drive-open.Post
+opening_drive_open_one κs a r r' s s' = equal_through
 
 pub table_check_check_table_one : OneResult table-check-check-table.Post
 table_check_check_table_one κs a r r' s s' = equal_through
 
 pub table_check_is_table_one : OneResult table-check-is-table.Post
 table_check_is_table_one κs a r r' s s' = equal_through
+
+pub table_check_opening_fault_from_rule_one : OneResult table-check-opening-fault-from-rule.Post
+table_check_opening_fault_from_rule_one κs a r r' s s' = equal_through
+
+pub table_check_number_of_rule_one : OneResult table-check-number-of-rule.Post
+table_check_number_of_rule_one κs a r r' s s' = equal_through
 
 pub places_fill_one : OneResult places-fill.Post
 places_fill_one κs a r r' s s' p p' = equal_through p.0 p'.0
@@ -221,6 +259,9 @@ view_step_one κs a r r' s s' = equal_through
 pub figure_show_one : OneResult figure-show.Post
 figure_show_one κs a r r' s s' = equal_through
 
+pub figure_number_of_figure_fault_one : OneResult figure-number-of-figure-fault.Post
+figure_number_of_figure_fault_one κs a r r' s s' = equal_through
+
 pub host_figure_show_one : OneResult host-figure-show.Post
 host_figure_show_one κs a r r' s s' = equal_through
 
@@ -245,8 +286,8 @@ page_full_number_one κs a r r' s s' = equal_through
 pub task_task_of_one : OneResult task-task-of.Post
 task_task_of_one κs a r r' s s' = equal_through
 
-pub errors_number_error_one : OneResult errors-number-error.Post
-errors_number_error_one κs a r r' s s' = equal_through
+pub errors_number_of_parameter_error_one : OneResult errors-number-of-parameter-error.Post
+errors_number_of_parameter_error_one κs a r r' s s' = equal_through
 
 pub verdict_judge_one : OneResult verdict-judge.Post
 verdict_judge_one κs a r r' s s' = equal_through
@@ -341,10 +382,10 @@ net_write_normal_out κs a r r' s s' p p' = equal_through p.1 p'.1
 pub slave_serve_one : OneResult slave-serve.Post
 slave_serve_one κs a r r' s s' p p' = equal_through p.answers p'.answers
 
-pub slave_serve_values : OneExit slave-serve.Post (λ κs s. s.1.1.0.now)
+pub slave_serve_values : OneExit slave-serve.Post (λ κs s. s.1.0.now)
 slave_serve_values κs a r r' s s' p p' = ap (λ (m : Memory). m.values) (equal_through p.memory_is p'.memory_is)
 
-pub slave_serve_reply : OneExit slave-serve.Post (λ κs s. s.1.1.1.1.1.1.1.1.0.now)
+pub slave_serve_reply : OneExit slave-serve.Post (λ κs s. s.1.1.1.1.1.0.now)
 slave_serve_reply κs a r r' s s' p p' = equal_through p.reply_is p'.reply_is
 
 pub master_build_task_one : OneResult master-build-task.Post
@@ -412,6 +453,12 @@ listing_list_one κs a r r' s s' p p' = equal_through p.0 p'.0
 
 pub listing_list_out : OneExit listing-list.Post (λ κs s. s.1.0.now)
 listing_list_out κs a r r' s s' p p' = equal_through p.1 p'.1
+
+pub hex_lines_read_bytes_one : OneResult hex-lines-read-bytes.Post
+hex_lines_read_bytes_one κs a r r' s s' p p' = equal_through p.1.0 p'.1.0
+
+pub hex_lines_read_bytes_out : OneExit hex-lines-read-bytes.Post (λ κs s. s.1.0.now)
+hex_lines_read_bytes_out κs a r r' s s' p p' = equal_through p.1.1 p'.1.1
 
 -- ---- the calls for C
 

@@ -3,12 +3,12 @@ use Prim.Native.Nat.{ℕ}
 use mathlib.Core.Path.{◌≡◌, refl}
 use mathlib.Core.List.{List, [], ◌∷◌, map}
 use lib.ListN.{replicate}
+use Rattle.std.specs.Prelude.{None}
 use Rattle.rows.specs.Rows.{first_of}
 use Rattle.setup.specs.declared.Setup.{Setup}
 use Rattle.setup.specs.SetupRules.{setup_ok}
 use Rattle.table.specs.Records.{entries_from, entries, counts_of}
 use Rattle.bcc.specs.Bcc.{xor_all}
-use Rattle.opening.specs.Lent.{Unlisted}
 use Rattle.opening.specs.Rules.{rising_from, each_ok, runs_ok}
 use Rattle.broadcast.specs.Broadcast.{is_void}
 use Rattle.slave.specs.Slave.{Call}
@@ -21,7 +21,7 @@ small = record { node = 3; pkw = 0; pzd = 1 }
 
 -- no parameter, a buffer of 256 bytes, these bytes received
 abbrev pub small_call : List ℕ → Call
-small_call rx = record { setup = small; table = []; memory = record { values = [] }; list = Unlisted; control = two_words 0 0; status = two_words 0 0; received = rx; buffer = replicate 256 0 }
+small_call rx = record { setup = small; table = []; memory = record { values = [] }; list = None; control = two_words 0 0; status = two_words 0 0; received = rx; buffer = replicate 256 0 }
 
 abbrev pub lines : List (List ℕ × ℕ)
 lines =

@@ -10,23 +10,23 @@ use mathlib.Core.Bool.{Bool, true, false, not, ◌&&◌, ◌||◌}
 use mathlib.Core.List.{List, [], ◌∷◌}
 use native.Mathlib.Omega.{arith}
 use lib.Dec.{lit<}
+use Rattle.std.specs.Prelude.{Result, Ok}
 use Rattle.rows.specs.Rows.{first_of, read_rows, Chosen}
 use Rattle.rows.proofs.RowsLaws.{first_all, first_chosen, chosen_first, first_read}
 use Rattle.setup.specs.SetupRules.{other_node, other_length}
 use Rattle.frame.specs.Frame.{last_of, frame_rows, frame_numbers, frame_of}
-use Rattle.address.specs.Address.{broadcast_bit, mirror_bit, top_bit, address_rows, address_of, kind_of, decoded_from, adr_of}
+use Rattle.frame.specs.declared.FrameFault.{FrameFault}
+use Rattle.address.specs.Address.{broadcast_bit, mirror_bit, top_bit, address_rows, address_of, addressed, decoded_from, adr_of}
 use Rattle.address.specs.declared.Address.{Address}
 use Rattle.address.specs.declared.Address.TheVariants.{ToOne}
-use Rattle.frame.specs.declared.FrameCheck.{FrameCheck}
-use Rattle.frame.specs.declared.FrameCheck.TheVariants.{Sound}
-use Rattle.address.specs.declared.Decoded.{Decoded}
+use Rattle.address.specs.declared.Telegram.{Telegram}
+use Rattle.address.specs.declared.Fault.{Fault}
 use Rattle.frame.proofs.FrameLaws.{Framed}
 use Rattle.address.proofs.DecodedLaws.{framed_decoded}
-use Rattle.opening.specs.Answers.{opened_number, opening_rows, opening_of}
-use Rattle.opening.specs.declared.Opening.{Opening}
-use Rattle.opening.specs.declared.Opening.TheVariants.{Passed}
+use Rattle.opening.specs.Answers.{opened_number, opening_rows, opening_of, passed}
 use Rattle.slave_answers.specs.declared.Refusal.TheVariants.{OtherNode, OtherLength, VoidBroadcast}
 use Rattle.slave_answers.specs.SlaveNumbers.{answer_number}
+use Rattle.slave_answers.specs.declared.OpeningFault.{OpeningFault}
 use Rattle.control.specs.Control.{void_in}
 use Rattle.slave.specs.Slave.{Call, Outcome, lent_by, opening_at, net_in, refused_of, normal_outcome, normal_case, mirror_outcome, mirror_case, taken_outcome, broadcast_case, execute_decoded, execute_of, call_opened, call_of}
 use Rattle.slave.proofs.CaseLaws.{executed, called}
@@ -102,14 +102,14 @@ module _ (k : Call) where
 
   -- ---- the address byte
 
-  abbrev of_decoded : Decoded → ℕ
+  abbrev of_decoded : Result Telegram Fault → ℕ
   of_decoded d = number_in (execute_decoded d k)
 
-  sound_number : of_decoded (kind_of (address_of adr) (last_of k.received)) ≡ table_number
+  sound_number : of_decoded (addressed (address_of adr) (last_of k.received)) ≡ table_number
   unfolding address_of
   sound_number =
       let net : last_of k.received - 3 ≡ net_in k.received = omega arith in
-      first_read (λ (a : Address). of_decoded (kind_of a (last_of k.received))) (address_rows adr) (ToOne (adr % 32))
+      first_read (λ (a : Result Address Fault). of_decoded (addressed a (last_of k.received))) (address_rows adr) (Ok (ToOne (adr % 32)))
       ∙ rw (net, normal_number (adr % 32) (net_in k.received), mirror_number (adr % 32), broadcast_number)
       (kinds (top_bit adr) (broadcast_bit adr) (mirror_bit adr) node_other length_other is_void_in)
 
@@ -118,7 +118,7 @@ module _ (k : Call) where
   frame_number_lem : number_in (execute_of k) ≡ first_of (frame_numbers k.received) table_number
   unfolding execute_of frame_of
   frame_number_lem =
-      first_read (λ (r : FrameCheck). of_decoded (decoded_from r adr)) (frame_rows k.received) (Sound (last_of k.received))
+      first_read (λ (r : Result ℕ FrameFault). of_decoded (decoded_from r adr)) (frame_rows k.received) (Ok (last_of k.received))
       ∙ ap (λ (n : ℕ). first_of (frame_numbers k.received) n) sound_number
 
   -- ---- the opening check, and the whole
@@ -128,7 +128,7 @@ module _ (k : Call) where
 
   call_number : number_in (call_of k) ≡ first_of opening_numbers (number_in (execute_of k))
   unfolding call_of opening_of
-  call_number = first_read (λ (o : Opening). number_in (call_opened o k)) (opening_rows (lent_by k)) Passed
+  call_number = first_read (λ (o : Result (Unit {0}) OpeningFault). number_in (call_opened o k)) (opening_rows (lent_by k)) passed
 
   pub answer_table : answer_number (call_of k).served.answer ≡ first_of (answer_rows k) (accepted_number k.received)
   answer_table = call_number ∙ ap (λ (n : ℕ). first_of opening_numbers n) frame_number_lem
@@ -140,7 +140,7 @@ module _ (k : Call) where
   pub exactly_answer : (n : ℕ) → Chosen (answer_rows k) (accepted_number k.received) n → answer_number (call_of k).served.answer ≡ n
   exactly_answer n c = answer_table ∙ sym (chosen_first (answer_rows k) (accepted_number k.received) n c)
 
-  pub beyond_frame : opening_at k ≡ Passed → Framed k.received → PastFrame (call_of k)
+  pub beyond_frame : opening_at k ≡ passed → Framed k.received → PastFrame (call_of k)
   beyond_frame p f =
-      let o = called k Passed p ∙ executed k (kind_of (address_of adr) (last_of k.received)) (framed_decoded k.received f) in
+      let o = called k passed p ∙ executed k (addressed (address_of adr) (last_of k.received)) (framed_decoded k.received f) in
       subst NotFrame (sym (ap number_in o ∙ sound_number)) table_beyond

@@ -5,6 +5,7 @@ use Prim.Native.Nat.{ℕ}
 use mathlib.Core.Path.{◌≡◌, refl}
 use mathlib.Core.List.{List, [], ◌∷◌, map}
 use lib.ListN.{replicate}
+use Rattle.std.specs.Prelude.{Option, Some, None}
 use Rattle.setup.specs.SetupRules.{setup_ok}
 use Rattle.entry.specs.Fields.{entry_of, count_of}
 use Rattle.signs.specs.Signs.{signed_of}
@@ -14,7 +15,6 @@ use Rattle.bcc.specs.Bcc.{xor_all}
 use Rattle.frame.specs.Frame.{frame_of}
 use Rattle.address.specs.Address.{address_of}
 use Rattle.opening.specs.Rules.{rising_from, each_ok, run_ok, runs_ok, sums_ok}
-use Rattle.opening.specs.Lent.{PlaceList, Unlisted, Listed}
 use Rattle.opening.specs.Answers.{opening_of}
 use Rattle.area.specs.Net.{net_of}
 use Rattle.area.specs.Read.{value_at, area_at, process_at}
@@ -73,11 +73,11 @@ abbrev pub awaited : List ℕ × ℕ × List ℕ → ℕ × List ℕ
 awaited c = (c.1, c.2)
 
 -- with a list, or without
-abbrev pub ran_with : PlaceList → Run
+abbrev pub ran_with : Option (List ℕ) → Run
 ran_with l = run_of (record { setup = setup; table = table; list = l }) start_state (map (λ (c : List ℕ × ℕ × List ℕ). event_of c.0) calls)
 
 abbrev pub ran : Run
-ran = ran_with Unlisted
+ran = ran_with None
 
 -- each call is answered so, one after another; the value left is the one that was changed, the control words are those of the
 -- last normal telegram with the broadcast's masked bits
@@ -86,6 +86,6 @@ unfolding run_of call_of opening_of setup_ok rising_from each_ok run_ok runs_ok 
 known_sequence = (refl, refl, refl)
 
 -- the table's list is 0. With it each call is answered in the same way; with another each is 25, and nothing has changed
-pub known_listed_sequence : (ran_with (Listed (0 ∷ [])) ≡ ran) × (map (λ (x : Seen). answer_number x.answer) (ran_with (Listed (1 ∷ []))).seen ≡ replicate 8 25) × ((ran_with (Listed (1 ∷ []))).last ≡ start_state)
+pub known_listed_sequence : (ran_with (Some (0 ∷ [])) ≡ ran) × (map (λ (x : Seen). answer_number x.answer) (ran_with (Some (1 ∷ []))).seen ≡ replicate 8 25) × ((ran_with (Some (1 ∷ []))).last ≡ start_state)
 unfolding run_of call_of opening_of setup_ok rising_from each_ok run_ok runs_ok sums_ok entry_of count_of signed_of number_of at_most fits_in is_within entry_ok entry_at entries_from entries find_from counts_of execute_of xor_all frame_of address_of normal_case mirror_case broadcast_case command_at control_taken reply_of net_of value_at area_at process_at tasks task_of page_of verdict_of element_of is_void merge_of control_after deed_on found_of plan_in plan_at
 known_listed_sequence = (refl, refl, refl)

@@ -8,11 +8,10 @@ use native.Mathlib.Omega.{arith}
 use borrow.Author.Tests.{ne_eqb}
 use lib.Dec.{lit<}
 use lib.ListN.{get_or}
+use Rattle.std.specs.Prelude.{Option, Some, None, Result, Ok, Err}
 use Rattle.rows.specs.Rows.{Each}
 use Rattle.area.specs.declared.Area.{Area}
 use Rattle.opening.specs.Lent.{Memory, stored}
-use Rattle.table.specs.declared.Found.{Found}
-use Rattle.table.specs.declared.Found.TheVariants as found
 use Rattle.table.specs.Records.{entry_at, first_place}
 use Rattle.entry.specs.declared.Entry.{Entry}
 use Rattle.page.specs.Page.{base_of}
@@ -23,8 +22,7 @@ use Rattle.task.specs.declared.Width.TheVariants.{Either, Word, Double}
 use Rattle.task.specs.Task.{task_row, tasks, task_of, read_reply, carried}
 use Rattle.errors.specs.declared.ParameterError.TheVariants.{NoParameter}
 use Rattle.errors.specs.ErrorNumbers.{error_number}
-use Rattle.verdict.specs.declared.Verdict.{Verdict}
-use Rattle.verdict.specs.declared.Verdict.TheVariants.{Granted, Denied}
+use Rattle.errors.specs.declared.ParameterError.{ParameterError}
 use Rattle.verdict.specs.Verdict.{verdict_of, element_of}
 use Rattle.deed.specs.Deed.{reply_area, task_in, index_in, verdict_in, act_deed, deed_on}
 use Rattle.deed.proofs.DeedLaws.{deed_denied, deed_granted}
@@ -91,17 +89,17 @@ module _ (p q : ℕ) (act : Act) (width : Width) (low id : ℕ)
     deed_plain : done_by (deed_on n (as_task p a) e) first m ≡ as_plain (done_by (deed_on n (as_task q a) e) first m)
     deed_plain = go (verdict_in n (as_task p a) e) refl
       where
-        go : (v : Verdict) → verdict_in n (as_task p a) e ≡ v → done_by (deed_on n (as_task p a) e) first m ≡ as_plain (done_by (deed_on n (as_task q a) e) first m)
-        go (Denied error) h =
+        go : (v : Result (Unit {0}) ParameterError) → verdict_in n (as_task p a) e ≡ v → done_by (deed_on n (as_task p a) e) first m ≡ as_plain (done_by (deed_on n (as_task q a) e) first m)
+        go (Err error) h =
             rw (deed_denied n (as_task p a) e error h, deed_denied n (as_task q a) e error (sym (verdict_same e) ∙ h))
             (reply_plain p q a 7 7 (error_number error) m refl)
-        go Granted h =
+        go (Ok done) h =
             rw (deed_granted n (as_task p a) e h, deed_granted n (as_task q a) e (sym (verdict_same e) ∙ h), p_is, q_is)
             (granted_plain act lower)
 
-  on_plain : (t : List ℕ) (m : Memory) (f : Found) → carried_out (plan_on n t (as_task p a) f) m ≡ as_plain (carried_out (plan_on n t (as_task q a) f) m)
-  on_plain t m found.Nothing = reply_plain p q a 7 7 (error_number NoParameter) m refl
-  on_plain t m (found.At k) = deed_plain (entry_at t k) (first_place t k) m
+  on_plain : (t : List ℕ) (m : Memory) (f : Option ℕ) → carried_out (plan_on n t (as_task p a) f) m ≡ as_plain (carried_out (plan_on n t (as_task q a) f) m)
+  on_plain t m None = reply_plain p q a 7 7 (error_number NoParameter) m refl
+  on_plain t m (Some k) = deed_plain (entry_at t k) (first_place t k) m
 
   by_index : 0 < p → 0 < q → (t : List ℕ) (m : Memory) → ByIndex n t m a (p, q)
   unfolding plan_in

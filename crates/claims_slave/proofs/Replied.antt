@@ -11,15 +11,16 @@ use native.Mathlib.Omega.{arith}
 use borrow.Author.Tests.{ne_eqb, eqb-true}
 use lib.Dec.{eqb}
 use lib.ListN.{length}
+use Rattle.std.specs.Prelude.{Result, Ok}
 use Rattle.rows.specs.Bits.{bit}
 use Rattle.words.specs.Words.{Bytes}
 use Rattle.setup.proofs.SetupLaws.{ok_configured, area_few, own_words}
 use Rattle.table.specs.Records.{entry_at, first_place}
 use Rattle.frame.specs.Frame.{last_of, frame_of}
-use Rattle.address.specs.Address.{kind_of, decoded_of}
+use Rattle.address.specs.Address.{addressed, decoded_of}
 use Rattle.address.specs.declared.Address.{Address}
-use Rattle.frame.specs.declared.FrameCheck.TheVariants.{Sound}
-use Rattle.address.specs.declared.Decoded.TheVariants.{Normal}
+use Rattle.address.specs.declared.Fault.{Fault}
+use Rattle.address.specs.declared.Telegram.TheVariants.{Normal}
 use Rattle.address.proofs.AddressLaws.{to_one}
 use Rattle.address.proofs.DecodedLaws.{telegram_framed}
 use Rattle.opening.specs.Lent.{stored}
@@ -48,7 +49,7 @@ use Rattle.claims_slave.proofs.WhenAnswered.{replied_call, mirrored_call, taken_
 -- ---- replies
 
 module _ (k : Call) where
-  pub reply_sound : (call_of k).served.answer ≡ Replied → SoundReply (call_of k) k
+  pub reply_sound : (call_of k).served.answer ≡ Ok Replied → SoundReply (call_of k) k
   unfolding reply_of
   reply_sound e =
       let h = (replied_exactly k).0 e in
@@ -56,23 +57,23 @@ module _ (k : Call) where
       let n = net_in k.received in
       let a = (task_at n k).area in
       let net = net_of (fixed_words (count_in k) a) (process_words k.setup.pzd k.status) in
-      let f = telegram_framed k.received (Normal k.setup.node 3 (last_of k.received)) h.1 refl in
+      let f = telegram_framed k.received (Ok (Normal k.setup.node 3 (last_of k.received))) h.1 refl in
       let own = own_words k.setup n h.2 in
       let rl = reply_long k.setup n a k.status c in
       let long : length net ≡ n = omega (arith, length_telegram k.setup.node net, rl, own) in
-      let frame : frame_of (reply_at n k) ≡ Sound (last_of k.received) =
-      telegram_passes k.setup.node net (omega (arith, f.counted.long)) (omega (arith, own, c.process, area_few k.setup n c)) ∙ ap Sound (omega (arith, f.counted.long)) in
+      let frame : frame_of (reply_at n k) ≡ Ok (last_of k.received) =
+      telegram_passes k.setup.node net (omega (arith, f.counted.long)) (omega (arith, own, c.process, area_few k.setup n c)) ∙ ap Ok (omega (arith, f.counted.long)) in
       let sent = written_first k.buffer (reply_at n k) in
       rw (replied_call k h.0 h.1 h.2)
       (record {
         passes = ap frame_of sent ∙ frame;
-        reads = ap decoded_of sent ∙ rw frame (ap (λ (x : Address). kind_of x (last_of k.received)) (to_one k.setup.node c.nodes));
+        reads = ap decoded_of sent ∙ rw frame (ap (λ (x : Result Address Fault). addressed x (last_of k.received)) (to_one k.setup.node c.nodes));
         reported = ap length (sym sent);
         as_long = rl ∙ omega (arith, own, f.counted.long);
         rest = written_rest k.buffer (reply_at n k);
       })
 
-  pub mirror_same : (call_of k).served.answer ≡ Mirrored → SameReply (call_of k) k
+  pub mirror_same : (call_of k).served.answer ≡ Ok Mirrored → SameReply (call_of k) k
   mirror_same e =
       let h = (mirrored_exactly k).0 e in
       rw (mirrored_call k h.0 h.1)
@@ -99,7 +100,7 @@ module _ (k : Call) where
       rw (ne_eqb (count_in k) 0 g.has_area, change_busy (a.pke / 4096) g.changes, g.found, deed_granted (count_in k) a e g.granted)
       (ap (λ (x : Act). (done_by (act_deed x a e) (first_place k.table j) k.memory).memory) g.changes)
 
-  pub change_stored : (call_of k).served.answer ≡ Replied → (j : ℕ) → GrantedChange k j
+  pub change_stored : (call_of k).served.answer ≡ Ok Replied → (j : ℕ) → GrantedChange k j
       → ((call_of k).memory ≡ stored k.memory (place_in k j) (value_in (area_in k))) × (place_in k j < length k.memory.values)
   change_stored e j g =
       let h = (replied_exactly k).0 e in
@@ -110,14 +111,14 @@ module _ (k : Call) where
         omega (arith, o.count, fits, element_there (count_in k) a (entry_at k.table j) g.granted),
       )
 
-  pub control_replaced : (call_of k).served.answer ≡ Replied → (k.setup.pzd ≡ 0 → ⊥) → bit 10 (first_word k.setup (net_in k.received) k.received) ≡ 1
+  pub control_replaced : (call_of k).served.answer ≡ Ok Replied → (k.setup.pzd ≡ 0 → ⊥) → bit 10 (first_word k.setup (net_in k.received) k.received) ≡ 1
       → (call_of k).served.control ≡ process_in k.setup (net_in k.received) k.control k.received
   unfolding control_taken
   control_replaced e some b =
       let h = (replied_exactly k).0 e in
       rw (replied_call k h.0 h.1 h.2) (rw (ne_eqb k.setup.pzd 0 some, b))
 
-  pub taken_runs : Bytes k.received → (call_of k).served.answer ≡ Taken → bit 10 (call_of k).served.control.w1 ≡ 1
+  pub taken_runs : Bytes k.received → (call_of k).served.answer ≡ Ok Taken → bit 10 (call_of k).served.control.w1 ≡ 1
   unfolding command_at
   taken_runs b e =
       let h = (taken_exactly k).0 e in

@@ -5,6 +5,7 @@ use Prim.Native.Nat.{ℕ, ◌/◌, ◌%◌, ◌<◌}
 use mathlib.Core.Path.{◌≡◌, ap, ◌∙◌}
 use mathlib.Core.List.{List}
 use native.Mathlib.Omega.{arith}
+use Rattle.std.specs.Prelude.{Ok}
 use Rattle.words.specs.Words.{word_at}
 use Rattle.area.specs.declared.Area.{Area}
 use Rattle.area.specs.Net.{fixed_words, process_words, net_of}
@@ -77,22 +78,22 @@ module _ (k : Call) where
   process = process_words k.setup.pzd k.status
 
   -- what is sent, over the words of the area
-  sent_is : (call_of k).served.answer ≡ Replied → sent_by (call_of k) ≡ telegram_of k.setup.node (net_of (fixed_words (count_in k) area) process)
+  sent_is : (call_of k).served.answer ≡ Ok Replied → sent_by (call_of k) ≡ telegram_of k.setup.node (net_of (fixed_words (count_in k) area) process)
   unfolding reply_of
   sent_is e =
       let h = (replied_exactly k).0 e in
       rw (replied_call k h.0 h.1 h.2) (written_first k.buffer (reply_at n k))
 
-  sends : (call_of k).served.answer ≡ Replied → MayReply (count_in k) area
+  sends : (call_of k).served.answer ≡ Ok Replied → MayReply (count_in k) area
   sends e = task_sends (lent_by k) ((replied_exactly k).0 e).0 (count_in k) k.received
 
-  pub four_sent : (call_of k).served.answer ≡ Replied → count_in k ≡ 4 → FourSent (sent_by (call_of k)) (task_at (net_in k.received) k).area.value
+  pub four_sent : (call_of k).served.answer ≡ Ok Replied → count_in k ≡ 4 → FourSent (sent_by (call_of k)) (task_at (net_in k.received) k).area.value
   four_sent e four =
       let w = four_words k.setup.node area process in
       let is = sent_is e ∙ ap (λ (c : ℕ). telegram_of k.setup.node (net_of (fixed_words c area) process)) four in
       rw is (in_four (four_bytes k.setup.node area process) (count_in k) area (sends e) w.0 w.1 w.2 w.3)
 
-  pub three_sent : (call_of k).served.answer ≡ Replied → count_in k ≡ 3 → ThreeSent (sent_by (call_of k)) (task_at (net_in k.received) k).area.value
+  pub three_sent : (call_of k).served.answer ≡ Ok Replied → count_in k ≡ 3 → ThreeSent (sent_by (call_of k)) (task_at (net_in k.received) k).area.value
   three_sent e three =
       let w = three_words k.setup.node area process in
       let is = sent_is e ∙ ap (λ (c : ℕ). telegram_of k.setup.node (net_of (fixed_words c area) process)) three in

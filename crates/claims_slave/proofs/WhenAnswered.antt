@@ -7,14 +7,15 @@ use mathlib.Core.Path.{◌≡◌, refl, sym, ap, ◌∙◌}
 use mathlib.Core.Logic.{◌↔◌}
 use mathlib.Core.Bool.{false, false≢true}
 use native.Mathlib.Omega.{arith}
+use Rattle.std.specs.Prelude.{Ok}
 use Rattle.setup.specs.SetupRules.{other_length}
 use Rattle.setup.proofs.SetupLaws.{node_own}
 use Rattle.frame.specs.Frame.{last_of}
 use Rattle.address.specs.Address.{decoded_of}
-use Rattle.address.specs.declared.Decoded.TheVariants.{Normal, Mirror, Broadcast}
-use Rattle.opening.specs.declared.Opening.TheVariants.{Passed}
+use Rattle.address.specs.declared.Telegram.TheVariants.{Normal, Mirror, Broadcast}
 use Rattle.slave_answers.specs.declared.Answer.TheVariants.{Replied, Mirrored, Taken}
 use Rattle.slave_answers.specs.SlaveNumbers.{answer_number}
+use Rattle.opening.specs.Answers.{passed}
 use Rattle.control.specs.Control.{void_in}
 use Rattle.slave.specs.Slave.{Call, Outcome, opening_at, net_in, normal_outcome, normal_case, mirror_outcome, taken_outcome, call_of}
 use Rattle.slave.proofs.CaseLaws.{normal_replied, mirror_sent, broadcast_taken, executed, called}
@@ -22,26 +23,26 @@ use Rattle.claims_slave.specs.Outcomes.{is_refused}
 use Rattle.claims_slave.proofs.Cases.{call_cases}
 
 module _ (k : Call) where
-  pub replied_call : opening_at k ≡ Passed → decoded_of k.received ≡ Normal k.setup.node 3 (last_of k.received) → other_length k.setup (net_in k.received) ≡ false
+  pub replied_call : opening_at k ≡ passed → decoded_of k.received ≡ Ok (Normal k.setup.node 3 (last_of k.received)) → other_length k.setup (net_in k.received) ≡ false
       → call_of k ≡ normal_outcome (net_in k.received) k
   replied_call p d l =
       let net : last_of k.received - 3 ≡ net_in k.received = omega arith in
-      called k Passed p ∙ executed k (Normal k.setup.node 3 (last_of k.received)) d ∙ ap (λ (n : ℕ). normal_case k.setup.node n k) net
+      called k passed p ∙ executed k (Ok (Normal k.setup.node 3 (last_of k.received))) d ∙ ap (λ (n : ℕ). normal_case k.setup.node n k) net
       ∙ normal_replied k.setup.node (net_in k.received) k (node_own k.setup k.setup.node refl) l
 
-  pub mirrored_call : opening_at k ≡ Passed → decoded_of k.received ≡ Mirror k.setup.node → call_of k ≡ mirror_outcome k
+  pub mirrored_call : opening_at k ≡ passed → decoded_of k.received ≡ Ok (Mirror k.setup.node) → call_of k ≡ mirror_outcome k
   mirrored_call p d =
-      called k Passed p ∙ executed k (Mirror k.setup.node) d ∙ mirror_sent k.setup.node k (node_own k.setup k.setup.node refl)
+      called k passed p ∙ executed k (Ok (Mirror k.setup.node)) d ∙ mirror_sent k.setup.node k (node_own k.setup k.setup.node refl)
 
-  pub taken_call : opening_at k ≡ Passed → decoded_of k.received ≡ Broadcast → other_length k.setup (net_in k.received) ≡ false
+  pub taken_call : opening_at k ≡ passed → decoded_of k.received ≡ Ok Broadcast → other_length k.setup (net_in k.received) ≡ false
       → void_in k.setup (net_in k.received) k.received ≡ false → call_of k ≡ taken_outcome (net_in k.received) k
-  taken_call p d l v = called k Passed p ∙ executed k Broadcast d ∙ broadcast_taken (net_in k.received) k l v
+  taken_call p d l v = called k passed p ∙ executed k (Ok Broadcast) d ∙ broadcast_taken (net_in k.received) k l v
 
-  pub replied_exactly : ((call_of k).served.answer ≡ Replied)
-      ↔ ((opening_at k ≡ Passed) × (decoded_of k.received ≡ Normal k.setup.node 3 (last_of k.received)) × (other_length k.setup (net_in k.received) ≡ false))
+  pub replied_exactly : ((call_of k).served.answer ≡ Ok Replied)
+      ↔ ((opening_at k ≡ passed) × (decoded_of k.received ≡ Ok (Normal k.setup.node 3 (last_of k.received))) × (other_length k.setup (net_in k.received) ≡ false))
   replied_exactly = (
-    call_cases k (λ o. o.served.answer ≡ Replied
-        → (opening_at k ≡ Passed) × (decoded_of k.received ≡ Normal k.setup.node 3 (last_of k.received)) × (other_length k.setup (net_in k.received) ≡ false))
+    call_cases k (λ o. o.served.answer ≡ Ok Replied
+        → (opening_at k ≡ passed) × (decoded_of k.received ≡ Ok (Normal k.setup.node 3 (last_of k.received))) × (other_length k.setup (net_in k.received) ≡ false))
         (λ r b e. absurd (false≢true (sym (ap is_refused e))))
         (λ p d l e. (p, d, l))
         (λ p d e. absurd (omega (arith, ap answer_number e)))
@@ -49,9 +50,9 @@ module _ (k : Call) where
     λ h. ap (λ (o : Outcome). o.served.answer) (replied_call h.0 h.1 h.2),
   )
 
-  pub mirrored_exactly : ((call_of k).served.answer ≡ Mirrored) ↔ ((opening_at k ≡ Passed) × (decoded_of k.received ≡ Mirror k.setup.node))
+  pub mirrored_exactly : ((call_of k).served.answer ≡ Ok Mirrored) ↔ ((opening_at k ≡ passed) × (decoded_of k.received ≡ Ok (Mirror k.setup.node)))
   mirrored_exactly = (
-    call_cases k (λ o. o.served.answer ≡ Mirrored → (opening_at k ≡ Passed) × (decoded_of k.received ≡ Mirror k.setup.node))
+    call_cases k (λ o. o.served.answer ≡ Ok Mirrored → (opening_at k ≡ passed) × (decoded_of k.received ≡ Ok (Mirror k.setup.node)))
         (λ r b e. absurd (false≢true (sym (ap is_refused e))))
         (λ p d l e. absurd (omega (arith, ap answer_number e)))
         (λ p d e. (p, d))
@@ -59,12 +60,12 @@ module _ (k : Call) where
     λ h. ap (λ (o : Outcome). o.served.answer) (mirrored_call h.0 h.1),
   )
 
-  pub taken_exactly : ((call_of k).served.answer ≡ Taken)
-      ↔ ((opening_at k ≡ Passed) × (decoded_of k.received ≡ Broadcast) × (other_length k.setup (net_in k.received) ≡ false)
+  pub taken_exactly : ((call_of k).served.answer ≡ Ok Taken)
+      ↔ ((opening_at k ≡ passed) × (decoded_of k.received ≡ Ok Broadcast) × (other_length k.setup (net_in k.received) ≡ false)
       × (void_in k.setup (net_in k.received) k.received ≡ false))
   taken_exactly = (
-    call_cases k (λ o. o.served.answer ≡ Taken
-        → (opening_at k ≡ Passed) × (decoded_of k.received ≡ Broadcast) × (other_length k.setup (net_in k.received) ≡ false) × (void_in k.setup (net_in k.received) k.received ≡ false))
+    call_cases k (λ o. o.served.answer ≡ Ok Taken
+        → (opening_at k ≡ passed) × (decoded_of k.received ≡ Ok Broadcast) × (other_length k.setup (net_in k.received) ≡ false) × (void_in k.setup (net_in k.received) k.received ≡ false))
         (λ r b e. absurd (false≢true (sym (ap is_refused e))))
         (λ p d l e. absurd (omega (arith, ap answer_number e)))
         (λ p d e. absurd (omega (arith, ap answer_number e)))

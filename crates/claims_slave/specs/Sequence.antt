@@ -8,20 +8,20 @@
 --     kept c seen        what is seen, without the chosen refused calls
 --     every_one          the choice of all
 --     Opens s q          the opening check passes in the state q
-use Rattle.std.specs.Prelude.{ℕ, suc, ◌≡◌, Bool, true, ◌&&◌, cond, List, [], ◌∷◌, length}
+use Rattle.std.specs.Prelude.{ℕ, suc, ◌≡◌, Bool, true, ◌&&◌, cond, List, [], ◌∷◌, length, Option, Result}
 use Rattle.words.specs.declared.Words.{Words}
 use Rattle.setup.specs.declared.Setup.{Setup}
-use Rattle.opening.specs.Lent.{Memory, PlaceList}
-use Rattle.opening.specs.Answers.{opening_of}
-use Rattle.opening.specs.declared.Opening.TheVariants.{Passed}
+use Rattle.opening.specs.Lent.{Memory}
+use Rattle.opening.specs.Answers.{opening_of, passed}
 use Rattle.slave_answers.specs.declared.Answer.{Answer}
+use Rattle.slave_answers.specs.declared.Refusal.{Refusal}
 use Rattle.slave.specs.Slave.{Call, Outcome, sent_by, call_of}
 use Rattle.claims_slave.specs.Outcomes.{is_refused}
 
 pub record Standing : Type 0 where
   pub setup : Setup
   pub table : List ℕ
-  pub list : PlaceList
+  pub list : Option (List ℕ)
 
 pub record State : Type 0 where
   pub memory : Memory
@@ -35,7 +35,7 @@ pub record Event : Type 0 where
 
 -- the answer, the reply's length and the reply
 pub record Seen : Type 0 where
-  pub answer : Answer
+  pub answer : Result Answer Refusal
   pub count : ℕ
   pub bytes : List ℕ
 
@@ -44,7 +44,7 @@ pub record Run : Type 0 where
   pub last : State
 
 abbrev pub Opens : Standing → State → Type 0
-Opens s q = opening_of (record { setup = s.setup; table = s.table; memory = q.memory; list = s.list; room = length q.buffer }) ≡ Passed
+Opens s q = opening_of (record { setup = s.setup; table = s.table; memory = q.memory; list = s.list; room = length q.buffer }) ≡ passed
 
 abbrev pub asked : Standing → State → Event → Call
 asked s q e =

@@ -17,9 +17,9 @@ use Rattle.view.specs.declared.View.{View}
 use Rattle.view.proofs.first.Reads as first
 use Rattle.view.proofs.look.Reads as look
 use Rattle.view.proofs.next.Reads as next
-use Rattle.view.specs.contracts.new as new
-use Rattle.view.specs.contracts.show as show
-use Rattle.view.specs.contracts.step as step
+use Rattle.view.specs.contracts.View.new as new
+use Rattle.view.specs.contracts.View.show as show
+use Rattle.view.specs.contracts.View.step as step
 use Rattle.claims_view.specs.HeldTable.{NewPost, ShowPost, StepPost}
 
 -- what is promised is what the source states

@@ -10,21 +10,11 @@ use read_answers::Content;
 use task::Act;
 
 // What a reply answers: the task, and the number and the index that it repeats.
-#[derive(Clone, Copy)]
+#[derive(Clone, Copy, Debug, PartialEq, Eq)]
 pub struct Question {
     pub id: u8,
     pub number: u16,
     pub index: u8,
-}
-
-// Whether one of two numbers is meant.
-fn is_one_of(id: u8, a: u8, b: u8) -> bool
-    ensures { result ≡ (eqb id a || eqb id b) }
-{
-    if id == a {
-        return true;
-    }
-    id == b
 }
 
 // Whether a reply ID is in the row of an act whose reply ID is `reply`: a read of a double has the next one.
@@ -33,11 +23,8 @@ fn is_in_row(act: Act, reply: u8, id: u8) -> bool
     ensures { result ≡ in_row act reply id }
 {
     match act {
-        Act::Nothing => id == reply,
-        Act::Read => is_one_of(id, reply, reply + 1),
-        Act::Change => id == reply,
-        Act::Count => id == reply,
-        Act::Refuse => id == reply,
+        Act::Read => id == reply || id == reply + 1,
+        Act::Nothing | Act::Change | Act::Count | Act::Refuse => id == reply,
     }
 }
 
@@ -47,11 +34,7 @@ fn is_known(id: u8, reply_id: u8) -> bool
     ensures { result ≡ known_id id reply_id }
 {
     let task = task::task_of(id);
-    let act = task.act;
-    if is_in_row(act, task.reply, reply_id) {
-        return true;
-    }
-    is_one_of(reply_id, 7, 8)
+    is_in_row(task.act, task.reply, reply_id) || matches!(reply_id, 7 | 8)
 }
 
 // Whether the task is 0 and the area is not all 0.
@@ -59,75 +42,33 @@ fn is_known(id: u8, reply_id: u8) -> bool
 fn is_filled(id: u8, area: Area) -> bool
     ensures { result ≡ (eqb id 0 && not (all_zero area)) }
 {
-    if id != 0 {
-        return false;
-    }
-    if area.pke != 0 {
-        return true;
-    }
-    if area.ind != 0 {
-        return true;
-    }
-    area.value != 0
+    id == 0 && (area.pke != 0 || area.ind != 0 || area.value != 0)
 }
 
-// Whether a double stands in three words.
-fn is_cramped(n: u8, reply_id: u8) -> bool
-    ensures { result ≡ (is_double_id reply_id && eqb n 3) }
+// Whether a reply ID carries a double.
+fn is_double(reply_id: u8) -> bool
+    ensures { result ≡ is_double_id reply_id }
 {
-    if is_one_of(reply_id, 2, 5) {
-        return n == 3;
-    }
-    false
+    matches!(reply_id, 2 | 5)
 }
 
-// Whether PWE1 is not 0 before a word.
-fn is_too_wide(reply_id: u8, value: u32) -> bool
-    ensures { result ≡ (not (is_double_id reply_id) && ltb 65535 value) }
-{
-    if is_one_of(reply_id, 2, 5) {
-        return false;
-    }
-    65535 < value
-}
-
-// Whether an area of n words is not the reply to what was asked.
+// Whether an area of n words is not the reply to what was asked: a double in three words, and PWE1 not 0 before a word, among them.
 #[tactic(auto, unfolding(crate::specs::Content::bad_reply, crate::specs::Content::bad_rows))]
 pub fn is_bad(n: u8, asked: Question, area: Area) -> bool
     ensures { result ≡ bad_reply n asked area }
 {
     let reply_id = (area.pke / 4096) as u8;
-    if is_filled(asked.id, area) {
-        return true;
-    }
-    if !is_known(asked.id, reply_id) {
-        return true;
-    }
-    if is_cramped(n, reply_id) {
-        return true;
-    }
-    if area.pke % 2048 != asked.number % 2000 {
-        return true;
-    }
-    if area.ind / 4096 != page::nibble_of(asked.number) as u16 {
-        return true;
-    }
-    if area.ind % 256 != asked.index as u16 {
-        return true;
-    }
-    if area.pke / 2048 % 2 != 0 {
-        return true;
-    }
-    if area.ind / 256 % 16 != 0 {
-        return true;
-    }
-    if is_too_wide(reply_id, area.value) {
-        return true;
-    }
-    if reply_id == 8 {
-        return area.value != 0;
-    }
-    false
+    let double = is_double(reply_id);
+    !is_known(asked.id, reply_id)
+        || is_filled(asked.id, area)
+        || double && n == 3
+        || area.pke % 2048 != asked.number % 2000
+        || area.ind / 4096 != page::nibble_of(asked.number) as u16
+        || area.ind % 256 != asked.index as u16
+        || area.pke / 2048 % 2 != 0
+        || area.ind / 256 % 16 != 0
+        || !double && area.value > 65535
+        || reply_id == 8 && area.value != 0
 }
 
 // What the reply to a task holds.
@@ -136,19 +77,15 @@ pub fn read_content(id: u8, area: Area) -> Content
     ensures { result ≡ reply_content id area }
 {
     let reply_id = (area.pke / 4096) as u8;
-    if id == 0 {
-        return Content::Empty;
-    }
-    if reply_id == 7 {
-        return Content::Failed {
+    match (id, reply_id) {
+        (0, _) => Content::Empty,
+        (_, 7) => Content::Failed {
             error: (area.value % 65536) as u16,
-        };
-    }
-    if reply_id == 8 {
-        return Content::NoRight;
-    }
-    Content::Value {
-        id: reply_id,
-        value: area.value,
+        },
+        (_, 8) => Content::NoRight,
+        _ => Content::Value {
+            id: reply_id,
+            value: area.value,
+        },
     }
 }

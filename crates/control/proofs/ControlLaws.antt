@@ -6,6 +6,7 @@ use Prim.Native.Nat.{ℕ, ◌/◌, ◌%◌}
 use native.Mathlib.Omega.{arith}
 use lib.Dec.{eqb}
 use borrow.Author.Tests.{ne_eqb, eqb-false}
+use Rattle.std.specs.Prelude.{Some, None}
 use Rattle.words.specs.Words.{word_at, double_at, Bytes}
 use Rattle.words.specs.declared.Words.{Words}
 use Rattle.setup.specs.declared.Setup.{Setup}
@@ -15,7 +16,6 @@ use Rattle.area.specs.Read.{area_at}
 use Rattle.area.proofs.AreaLaws.{area_four, process_first}
 use Rattle.broadcast.specs.declared.Command.{Command}
 use Rattle.broadcast.specs.Broadcast.{is_void}
-use Rattle.control.specs.declared.Commanded.TheVariants.{Void, Changed}
 use Rattle.control.specs.Control.{first_word, process_in, command_at, void_in, control_commanded, commanded_of}
 
 pub first_taken : (s : Setup) (n : ℕ) (control : Words) (rx : List ℕ) {w : Words} → w ≡ process_in s n control rx → (s.pzd ≡ 0 → ⊥) → w.w1 ≡ first_word s n rx
@@ -50,28 +50,28 @@ void_same c pkw pzd f g h = go (eqb pkw 0) (eqb pzd 0) refl refl
 -- ---- what a broadcast comes to
 
 module _ (s : Setup) (n : ℕ) (control : Words) (rx : List ℕ) where
-  pub void_is : void_in s n rx ≡ true → commanded_of s n control rx ≡ Void
+  pub void_is : void_in s n rx ≡ true → commanded_of s n control rx ≡ None
   unfolding commanded_of
   void_is v = rw v
 
-  pub changed_is : void_in s n rx ≡ false → commanded_of s n control rx ≡ Changed (control_commanded s n control rx)
+  pub changed_is : void_in s n rx ≡ false → commanded_of s n control rx ≡ Some (control_commanded s n control rx)
   unfolding commanded_of
   changed_is v = rw v
 
 -- and back
-void_told : (b : Bool) (w : Words) → cond b Void (Changed w) ≡ Void → b ≡ true
+void_told : (b : Bool) (w : Words) → cond b None (Some w) ≡ None → b ≡ true
 void_told true w e = refl
 void_told false w e = let z : ◌≡◌ {A = ℕ} 0 1 = cc in absurd (omega arith)
 
-changed_told : (b : Bool) (w x : Words) → cond b Void (Changed w) ≡ Changed x → (b ≡ false) × (x ≡ w)
+changed_told : (b : Bool) (w x : Words) → cond b None (Some w) ≡ Some x → (b ≡ false) × (x ≡ w)
 changed_told true w x e = let z : ◌≡◌ {A = ℕ} 0 1 = cc in absurd (omega arith)
 changed_told false w x e = (refl, cc)
 
 module _ (s : Setup) (n : ℕ) (control : Words) (rx : List ℕ) where
-  pub is_void_lem : commanded_of s n control rx ≡ Void → void_in s n rx ≡ true
+  pub is_void_lem : commanded_of s n control rx ≡ None → void_in s n rx ≡ true
   unfolding commanded_of
   is_void_lem e = void_told (void_in s n rx) (control_commanded s n control rx) e
 
-  pub is_changed : (w : Words) → commanded_of s n control rx ≡ Changed w → (void_in s n rx ≡ false) × (w ≡ control_commanded s n control rx)
+  pub is_changed : (w : Words) → commanded_of s n control rx ≡ Some w → (void_in s n rx ≡ false) × (w ≡ control_commanded s n control rx)
   unfolding commanded_of
   is_changed w e = changed_told (void_in s n rx) (control_commanded s n control rx) w e

@@ -6,7 +6,7 @@
 --     void_in s n rx                      the broadcast is void
 --     control_commanded s n control rx    after a broadcast that is not void
 --     commanded_of s n control rx         what a broadcast comes to
-use Rattle.std.specs.Prelude.{ℕ, ◌+◌, ◌*◌, Bool, not, ◌&&◌, cond, List, eqb}
+use Rattle.std.specs.Prelude.{ℕ, ◌+◌, ◌*◌, Bool, not, ◌&&◌, cond, List, eqb, Option, Some, None}
 use Rattle.rows.specs.Bits.{bit}
 use Rattle.words.specs.Words.{word_at}
 use Rattle.words.specs.declared.Words.{Words}
@@ -15,8 +15,6 @@ use Rattle.setup.specs.SetupRules.{area_count}
 use Rattle.area.specs.Read.{process_at}
 use Rattle.broadcast.specs.declared.Command.{Command}
 use Rattle.broadcast.specs.Broadcast.{is_void, control_after}
-use Rattle.control.specs.declared.Commanded.{Commanded}
-use Rattle.control.specs.declared.Commanded.TheVariants.{Void, Changed}
 
 abbrev pub first_word : Setup → ℕ → List ℕ → ℕ
 first_word s n rx = word_at rx (area_count s n * 2 + 3)
@@ -44,5 +42,5 @@ void_in s n rx = is_void (command_in s n rx) s.pkw s.pzd (first_word s n rx)
 abbrev pub control_commanded : Setup → ℕ → Words → List ℕ → Words
 control_commanded s n control rx = control_after (command_in s n rx) control (process_in s n control rx)
 
-unfoldable pub commanded_of : Setup → ℕ → Words → List ℕ → Commanded
-commanded_of s n control rx = cond (void_in s n rx) Void (Changed (control_commanded s n control rx))
+unfoldable pub commanded_of : Setup → ℕ → Words → List ℕ → Option Words
+commanded_of s n control rx = cond (void_in s n rx) None (Some (control_commanded s n control rx))

@@ -10,6 +10,7 @@ use Prim.Native.Nat.{ℕ, ◌/◌, ◌%◌, ◌≤◌, ◌<◌}
 use native.Mathlib.Omega.{arith}
 use borrow.Author.Tests.{eq-eqb, not-false}
 use lib.Dec.{eqb, lit<, lit≤}
+use Rattle.std.specs.Prelude.{Result, Ok, Err}
 use Rattle.area.specs.declared.Area.{Area}
 use Rattle.area.specs.Read.{empty_area}
 use Rattle.entry.specs.declared.Entry.{Entry}
@@ -20,11 +21,9 @@ use Rattle.task.specs.declared.Width.{Width}
 use Rattle.task.specs.declared.Width.TheVariants.{Either, Word, Double}
 use Rattle.errors.specs.declared.ParameterError.{ParameterError}
 use Rattle.errors.specs.declared.ParameterError.TheVariants.{NoParameter, NotWritable, OutsideLimits, NoElement, NoArray, OtherWidth, NoRoom, NoTask}
-use Rattle.verdict.specs.declared.Verdict.{Verdict}
-use Rattle.verdict.specs.declared.Verdict.TheVariants.{Granted, Denied}
 use Rattle.task.specs.Task.{read_reply, is_double_id, carried}
 use Rattle.errors.specs.ErrorNumbers.{error_number}
-use Rattle.verdict.specs.Verdict.{refuses_act, changes_act, moves_value, differs_width, lacks_array, lacks_element, verdict_of}
+use Rattle.verdict.specs.Verdict.{refuses_act, changes_act, moves_value, differs_width, lacks_array, lacks_element, verdict_of, granted}
 use Rattle.task.proofs.TaskLaws.{IdOf, RowOf, task_row_lem, id_width, read_id_lem}
 use Rattle.verdict.proofs.VerdictLaws.{granted_clear}
 use Rattle.deed.specs.declared.Deed.{Deed}
@@ -104,7 +103,7 @@ count_few e h = go (eqb e.elements 0)
     go false = omega arith
 
 -- the row of error 5 does not apply to a task that is granted
-width_agrees : (r a b d : Bool) (rest : Verdict) → cond r (Denied NoTask) (cond a (Denied NoArray) (cond b (Denied NoElement) (cond d (Denied OtherWidth) rest))) ≡ Granted → d ≡ false
+width_agrees : (r a b d : Bool) (rest : Result (Unit {0}) ParameterError) → cond r (Err NoTask) (cond a (Err NoArray) (cond b (Err NoElement) (cond d (Err OtherWidth) rest))) ≡ granted → d ≡ false
 width_agrees true a b d rest e = let z : ◌≡◌ {A = ℕ} 0 1 = cc in absurd (omega arith)
 width_agrees false true b d rest e = let z : ◌≡◌ {A = ℕ} 0 1 = cc in absurd (omega arith)
 width_agrees false false true d rest e = let z : ◌≡◌ {A = ℕ} 0 1 = cc in absurd (omega arith)
@@ -118,7 +117,7 @@ no_room true true false h m d t = false≢true m
 no_room true false moves h m d t = false≢true t
 no_room false three moves h m d t = false≢true d
 
-module _ (n : ℕ) (a : Area) (e : Entry) (granted : verdict_in n a e ≡ Granted) where
+module _ (n : ℕ) (a : Area) (e : Entry) (granted : verdict_in n a e ≡ granted) where
   -- a granted task has room for its answer
   pub granted_room : moves_value (task_in a).act ≡ true → e.double ≡ true → n ≡ 3 → ⊥
   granted_room c d q = no_room e.double (eqb n 3) (moves_value (task_in a).act) (granted_clear n (task_in a) e (index_in a) (value_in a) granted).room_there c d (eq-eqb n 3 q)
@@ -145,7 +144,7 @@ filled (Fetch p element) x = record { pke = p.pke; ind = p.ind; value = x elemen
 filled (Write p element) x = p
 
 module _ (n : ℕ) (a : Area) (e : Entry) (few : e.elements ≤ 254) (x : ℕ → ℕ) where
-  act_replies : verdict_in n a e ≡ Granted → (e.double ≡ false → x (element_in a e) < 65536) → (act : Act) → (task_in a).act ≡ act
+  act_replies : verdict_in n a e ≡ granted → (e.double ≡ false → x (element_in a e) < 65536) → (act : Act) → (task_in a).act ≡ act
       → RowOf act (task_in a).width (task_in a).reply → MayReply n (filled (act_deed act a e) x)
   act_replies g word Nothing q row = idle_replies n
   act_replies g word Read q row =
@@ -155,10 +154,10 @@ module _ (n : ℕ) (a : Area) (e : Entry) (few : e.elements ≤ 254) (x : ℕ �
   act_replies g word Count q row = count_replies n a (task_in a).reply (count_of e) row (count_few e few)
   act_replies g word Refuse q row = error_replies n a NoTask
 
-  pub deed_replies : (verdict_in n a e ≡ Granted → e.double ≡ false → x (element_in a e) < 65536) → MayReply n (filled (deed_on n a e) x)
+  pub deed_replies : (verdict_in n a e ≡ granted → e.double ≡ false → x (element_in a e) < 65536) → MayReply n (filled (deed_on n a e) x)
   unfolding deed_on
   deed_replies word = go (verdict_in n a e) refl
     where
-      go : (v : Verdict) → verdict_in n a e ≡ v → MayReply n (filled (deed_on n a e) x)
-      go (Denied error) h = rw h (error_replies n a error)
-      go Granted h = rw h (act_replies h (word h) (task_in a).act refl (task_row_lem (a.pke / 4096)))
+      go : (v : Result (Unit {0}) ParameterError) → verdict_in n a e ≡ v → MayReply n (filled (deed_on n a e) x)
+      go (Err error) h = rw h (error_replies n a error)
+      go (Ok done) h = rw h (act_replies h (word h) (task_in a).act refl (task_row_lem (a.pke / 4096)))

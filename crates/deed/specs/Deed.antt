@@ -8,7 +8,7 @@
 --     act_deed act a e         what an act asks where no error applies
 --     deed_on n a e            what the task asks: the error's reply, or the act
 --     DeedFits d n             the element of a deed is below n
-use Rattle.std.specs.Prelude.{ℕ, ◌+◌, ◌*◌, ◌/◌, ◌%◌, ◌<◌}
+use Rattle.std.specs.Prelude.{ℕ, ◌+◌, ◌*◌, ◌/◌, ◌%◌, ◌<◌, Result, Ok, Err}
 use Rattle.area.specs.declared.Area.{Area}
 use Rattle.area.specs.Read.{empty_area}
 use Rattle.page.specs.Page.{base_of}
@@ -19,8 +19,6 @@ use Rattle.task.specs.declared.Act.{Act}
 use Rattle.task.specs.declared.Act.TheVariants.{Nothing, Read, Change, Count, Refuse}
 use Rattle.errors.specs.declared.ParameterError.{ParameterError}
 use Rattle.errors.specs.declared.ParameterError.TheVariants.{NoTask}
-use Rattle.verdict.specs.declared.Verdict.{Verdict}
-use Rattle.verdict.specs.declared.Verdict.TheVariants.{Granted, Denied}
 use Rattle.task.specs.Task.{task_of, read_reply, carried}
 use Rattle.errors.specs.ErrorNumbers.{error_number}
 use Rattle.verdict.specs.Verdict.{verdict_of, element_of}
@@ -52,7 +50,7 @@ value_in a = carried (task_in a).width a.value
 abbrev pub element_in : Area → Entry → ℕ
 element_in a e = element_of (task_in a) e (index_in a)
 
-abbrev pub verdict_in : ℕ → Area → Entry → Verdict
+abbrev pub verdict_in : ℕ → Area → Entry → Result (Unit {0}) ParameterError
 verdict_in n a e = verdict_of n (task_in a) e (index_in a) (value_in a)
 
 -- ---- what it asks
@@ -66,9 +64,9 @@ act_deed Change a e = Write (reply_area a (task_in a).reply (value_in a)) (eleme
 act_deed Count a e = Reply (reply_area a (task_in a).reply (count_of e))
 act_deed Refuse a e = Reply (error_area a NoTask)
 
-abbrev pub judged_deed : Verdict → Area → Entry → Deed
-judged_deed Granted a e = act_deed (task_in a).act a e
-judged_deed (Denied error) a e = Reply (error_area a error)
+abbrev pub judged_deed : Result (Unit {0}) ParameterError → Area → Entry → Deed
+judged_deed (Ok done) a e = act_deed (task_in a).act a e
+judged_deed (Err error) a e = Reply (error_area a error)
 
 unfoldable pub deed_on : ℕ → Area → Entry → Deed
 deed_on n a e = judged_deed (verdict_in n a e) a e

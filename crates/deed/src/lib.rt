@@ -3,7 +3,6 @@
 #![tactic(auto)]
 
 ghost use Rattle.std.specs.Prelude.{◌≡◌, ◌≤◌};
-ghost use Rattle.entry.specs.Fields.{count_of};
 ghost use Rattle.task.specs.Task.{read_reply, carried};
 ghost use Rattle.deed.specs.declared.Deed.TheVariants.{Reply};
 ghost use Rattle.deed.specs.Deed.{reply_area, error_area, task_in, value_in, element_in, act_deed, deed_on};
@@ -12,10 +11,9 @@ use area::Area;
 use entry::Entry;
 use errors::ParameterError;
 use task::{Act, Task, Width};
-use verdict::Verdict;
 
 // What is to be done: the reply's area as it stands, or with the element's value read into it, or with its value written to the element.
-#[derive(Clone, Copy)]
+#[derive(Clone, Copy, Debug, PartialEq, Eq)]
 pub enum Deed {
     Reply { area: Area },
     Fetch { area: Area, element: u8 },
@@ -39,7 +37,7 @@ pub fn deny(area: Area, error: ParameterError) -> Deed
     ensures { result ≡ Reply (error_area area error) }
 {
     Deed::Reply {
-        area: reply_area(area, 7, errors::number_error(error) as u32),
+        area: reply_area(area, 7, error.into()),
     }
 }
 
@@ -48,9 +46,8 @@ fn carry(width: Width, value: u32) -> u32
     ensures { result ≡ carried width value }
 {
     match width {
-        Width::Either => value,
         Width::Word => value % 65536,
-        Width::Double => value,
+        Width::Either | Width::Double => value,
     }
 }
 
@@ -62,26 +59,13 @@ fn pick_reply_id(reply: u8, double: bool) -> u8
     if double { reply + 1 } else { reply }
 }
 
-// Task 9's answer: the number of elements, 1 where there is no array.
-#[tactic(auto, unfolding(entry::specs::Fields::count_of))]
-fn count_elements(e: Entry) -> u32
-    ensures { result ≡ count_of e }
-{
-    if e.elements == 0 {
-        1
-    } else {
-        e.elements as u32
-    }
-}
-
 // What the task of an area asks where no error applies: `task`, `element` and `value` are the area's.
-#[tactic(auto, using(task::proofs::TaskLaws::reply_small, crate::proofs::DeedLaws::read_reply_le))]
+#[tactic(auto, unfolding(entry::specs::Fields::count_of), using(task::proofs::TaskLaws::reply_small, crate::proofs::DeedLaws::read_reply_le))]
 fn plan_act(task: Task, area: Area, e: Entry, element: u8, value: u32) -> Deed
     requires { (task ≡ task_in area) × (element ≡ element_in area e) × (value ≡ value_in area) }
     ensures { result ≡ act_deed task.act area e }
 {
-    let act = task.act;
-    match act {
+    match task.act {
         Act::Nothing => Deed::Reply {
             area: area::empty_area(),
         },
@@ -93,8 +77,9 @@ fn plan_act(task: Task, area: Area, e: Entry, element: u8, value: u32) -> Deed
             area: reply_area(area, task.reply, value),
             element,
         },
+        // the number of elements, 1 where there is no array
         Act::Count => Deed::Reply {
-            area: reply_area(area, task.reply, count_elements(e)),
+            area: reply_area(area, task.reply, entry::count_places(e) as u32),
         },
         Act::Refuse => deny(area, ParameterError::NoTask),
     }
@@ -106,12 +91,11 @@ pub fn plan(n: u8, area: Area, e: Entry) -> Deed
     ensures { result ≡ deed_on n area e }
 {
     let task = task::task_of((area.pke / 4096) as u8);
-    let width = task.width;
     let index = (area.ind % 256) as u8;
-    let value = carry(width, area.value);
+    let value = carry(task.width, area.value);
     match verdict::judge(n, task, e, index, value) {
-        Verdict::Denied(error) => deny(area, error),
-        Verdict::Granted => {
+        Err(error) => deny(area, error),
+        Ok(()) => {
             let element = verdict::pick_element(task, e, index);
             plan_act(task, area, e, element, value)
         }

@@ -4,7 +4,7 @@
 ghost use Rattle.std.specs.Prelude.{◌≡◌};
 ghost use Rattle.entry.specs.Fields.{entry_of, count_of};
 
-#[derive(Clone, Copy)]
+#[derive(Clone, Copy, Debug, PartialEq, Eq)]
 pub struct Entry {
     pub number: u16,
     pub double: bool,
@@ -38,9 +38,5 @@ pub fn entry_of(head: u32, minimum: u32, maximum: u32) -> Entry
 pub fn count_places(e: Entry) -> usize
     ensures { result ≡ count_of e }
 {
-    if e.elements == 0 {
-        1
-    } else {
-        e.elements as usize
-    }
+    usize::from(e.elements.max(1))
 }

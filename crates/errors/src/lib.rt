@@ -4,31 +4,24 @@
 ghost use Rattle.std.specs.Prelude.{◌≡◌};
 ghost use Rattle.errors.specs.ErrorNumbers.{error_number};
 
-// Why a task on a parameter fails, one case for each error number.
-#[derive(Clone, Copy)]
+// Why a task on a parameter fails, by the document's error numbers.
+#[derive(Clone, Copy, Debug, PartialEq, Eq)]
 pub enum ParameterError {
-    NoParameter,
-    NotWritable,
-    OutsideLimits,
-    NoElement,
-    NoArray,
-    OtherWidth,
-    NoRoom,
-    NoTask,
+    NoParameter = 0,
+    NotWritable = 1,
+    OutsideLimits = 2,
+    NoElement = 3,
+    NoArray = 4,
+    OtherWidth = 5,
+    NoRoom = 102,
+    NoTask = 106,
 }
 
 // The document's number of an error.
-pub fn number_error(error: ParameterError) -> u8
-    ensures { result ≡ error_number error }
-{
-    match error {
-        ParameterError::NoParameter => 0,
-        ParameterError::NotWritable => 1,
-        ParameterError::OutsideLimits => 2,
-        ParameterError::NoElement => 3,
-        ParameterError::NoArray => 4,
-        ParameterError::OtherWidth => 5,
-        ParameterError::NoRoom => 102,
-        ParameterError::NoTask => 106,
+impl From<ParameterError> for u32 {
+    ghost from_gives = { λ error number. number ≡ error_number error };
+
+    fn from(error: ParameterError) -> u32 {
+        error as u32
     }
 }

@@ -3,11 +3,12 @@
 --     is_minus z              z is below zero; zero is not
 --     over16384 z             z / 16384 as a double
 --     reference_ok ref        1 to 650 whole hertz
---     figure_of unit w ref    what is shown
---     figure_number f         the document's number: 50 where there is no figure, else 0
+--     figure_of unit w ref    what is shown, or 50
+--     fault_number f          the document's number of a refusal
+--     figure_number f         the number of what is shown: 50 where there is no figure, else 0
 --     figure_raw f            the raw word, where it is shown, else 0
 --     figure_value f          the double, where one is shown, else positive zero
-use Rattle.std.specs.Prelude.{ℕ, Bool, true, false, cond, ◌&&◌, leb, ℤ, pos, negsuc, ◌*ℤ◌, nat_abs, Float}
+use Rattle.std.specs.Prelude.{ℕ, Bool, true, false, cond, ◌&&◌, leb, ℤ, pos, negsuc, ◌*ℤ◌, nat_abs, Float, Result, Ok, Err}
 use Rattle.std.specs.Float.{fin, binary64}
 use Rattle.std.specs.Float.Ieee.{round}
 use Rattle.signs.specs.Signs.{signed_of}
@@ -15,6 +16,8 @@ use Rattle.figure.specs.declared.Unit.{Unit}
 use Rattle.figure.specs.declared.Unit.TheVariants as U
 use Rattle.figure.specs.declared.Figure.{Figure}
 use Rattle.figure.specs.declared.Figure.TheVariants as F
+use Rattle.figure.specs.declared.FigureFault.{FigureFault}
+use Rattle.figure.specs.declared.FigureFault.TheVariants.{BadReference}
 
 abbrev pub product_of : ℕ → ℕ → ℤ
 product_of w by = signed_of false w *ℤ pos by
@@ -31,25 +34,26 @@ over16384 z = round binary64 (is_minus z) (nat_abs z) 16384
 abbrev pub reference_ok : ℕ → Bool
 reference_ok ref = leb 1 ref && leb ref 650
 
-unfoldable pub figure_of : Unit → ℕ → ℕ → Figure
-figure_of U.Hertz w ref = cond (reference_ok ref) (F.Hertz (over16384 (product_of w ref))) F.BadReference
-figure_of U.Percent w ref = F.Percent (over16384 (product_of w 100))
-figure_of U.Raw w ref = F.Raw w
+unfoldable pub figure_of : Unit → ℕ → ℕ → Result Figure FigureFault
+figure_of U.Hertz w ref = cond (reference_ok ref) (Ok (F.Hertz (over16384 (product_of w ref)))) (Err BadReference)
+figure_of U.Percent w ref = Ok (F.Percent (over16384 (product_of w 100)))
+figure_of U.Raw w ref = Ok (F.Raw w)
 
-abbrev pub figure_number : Figure → ℕ
-figure_number (F.Hertz value) = 0
-figure_number (F.Percent value) = 0
-figure_number (F.Raw word) = 0
-figure_number F.BadReference = 50
+abbrev pub fault_number : FigureFault → ℕ
+fault_number BadReference = 50
 
-abbrev pub figure_raw : Figure → ℕ
-figure_raw (F.Hertz value) = 0
-figure_raw (F.Percent value) = 0
-figure_raw (F.Raw word) = word
-figure_raw F.BadReference = 0
+abbrev pub figure_number : Result Figure FigureFault → ℕ
+figure_number (Ok figure) = 0
+figure_number (Err fault) = fault_number fault
 
-abbrev pub figure_value : Figure → Float
-figure_value (F.Hertz value) = value
-figure_value (F.Percent value) = value
-figure_value (F.Raw word) = fin false 0 (pos 0)
-figure_value F.BadReference = fin false 0 (pos 0)
+abbrev pub figure_raw : Result Figure FigureFault → ℕ
+figure_raw (Ok (F.Hertz value)) = 0
+figure_raw (Ok (F.Percent value)) = 0
+figure_raw (Ok (F.Raw word)) = word
+figure_raw (Err fault) = 0
+
+abbrev pub figure_value : Result Figure FigureFault → Float
+figure_value (Ok (F.Hertz value)) = value
+figure_value (Ok (F.Percent value)) = value
+figure_value (Ok (F.Raw word)) = fin false 0 (pos 0)
+figure_value (Err fault) = fin false 0 (pos 0)

@@ -2,23 +2,37 @@
 #![tactic(auto)]
 
 ghost use Rattle.std.specs.Prelude.{◌≡◌, ◌≤◌};
-ghost use Rattle.figure.specs.Figures.{product_of, over16384, figure_of};
+ghost use Rattle.figure.specs.Figures.{product_of, over16384, figure_of, fault_number};
 
 // What a word is shown as.
-#[derive(Clone, Copy)]
+#[derive(Clone, Copy, Debug, PartialEq, Eq)]
 pub enum Unit {
     Hertz,
     Percent,
     Raw,
 }
 
-// What is shown: a double, the word as it came, or no figure, since the reference is out of range (50).
-#[derive(Clone, Copy)]
+// What is shown: a double, or the word as it came.
+#[derive(Clone, Copy, Debug, PartialEq)]
 pub enum Figure {
     Hertz(f64),
     Percent(f64),
     Raw(u16),
-    BadReference,
+}
+
+// Why there is no figure: the reference is out of range (50).
+#[derive(Clone, Copy, Debug, PartialEq, Eq)]
+pub enum FigureFault {
+    BadReference = 50,
+}
+
+// The document's number of a refusal.
+impl From<FigureFault> for u32 {
+    ghost from_gives = { λ fault number. number ≡ fault_number fault };
+
+    fn from(fault: FigureFault) -> u32 {
+        fault as u32
+    }
 }
 
 // The word, signed, times a multiplier, over 16384. Nothing is rounded.
@@ -32,20 +46,17 @@ fn scale(word: u16, by: u32) -> f64
 
 // Shows a word. Only hertz looks at the reference.
 #[tactic(auto, unfolding(crate::specs::Figures::figure_of))]
-pub fn show(unit: Unit, word: u16, reference: u32) -> Figure
+pub fn show(unit: Unit, word: u16, reference: u32) -> Result<Figure, FigureFault>
     ensures { result ≡ figure_of unit word reference }
 {
     match unit {
         Unit::Hertz => {
-            if reference < 1 {
-                return Figure::BadReference;
+            if !(1..=650).contains(&reference) {
+                return Err(FigureFault::BadReference);
             }
-            if 650 < reference {
-                return Figure::BadReference;
-            }
-            Figure::Hertz(scale(word, reference))
+            Ok(Figure::Hertz(scale(word, reference)))
         }
-        Unit::Percent => Figure::Percent(scale(word, 100)),
-        Unit::Raw => Figure::Raw(word),
+        Unit::Percent => Ok(Figure::Percent(scale(word, 100))),
+        Unit::Raw => Ok(Figure::Raw(word)),
     }
 }

@@ -7,20 +7,14 @@ ghost use Rattle.host_figure.specs.Host.{host_figure};
 
 use figure::{Figure, Unit};
 
-// What a showing returns: the answer's number, the raw word, and the double. What is not shown is 0.
+// What a showing returns: the answer's number, the raw word, and the double. What is not shown is 0. It is a struct of the calls for C, so
+// there is no Result.
 #[repr(C)]
-#[derive(Clone, Copy)]
+#[derive(Clone, Copy, Debug, Default, PartialEq)]
 pub struct HostFigure {
     pub number: u32,
     pub raw: u32,
     pub value: f64,
-}
-
-// The three fields of what is returned.
-fn give(number: u32, raw: u32, value: f64) -> HostFigure
-    ensures { result ≡ record { number = number; raw = raw; value = value } }
-{
-    HostFigure { number, raw, value }
 }
 
 // Shows a word.
@@ -28,9 +22,17 @@ pub fn show(unit: Unit, word: u16, reference: u32) -> HostFigure
     ensures { result ≡ host_figure (figure_of unit word reference) }
 {
     match figure::show(unit, word, reference) {
-        Figure::Hertz(value) => give(0, 0, value),
-        Figure::Percent(value) => give(0, 0, value),
-        Figure::Raw(shown) => give(0, shown as u32, 0.0),
-        Figure::BadReference => give(50, 0, 0.0),
+        Ok(Figure::Hertz(value) | Figure::Percent(value)) => HostFigure {
+            value,
+            ..HostFigure::default()
+        },
+        Ok(Figure::Raw(shown)) => HostFigure {
+            raw: shown as u32,
+            ..HostFigure::default()
+        },
+        Err(fault) => HostFigure {
+            number: fault.into(),
+            ..HostFigure::default()
+        },
     }
 }

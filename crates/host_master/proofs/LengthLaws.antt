@@ -6,6 +6,7 @@ use Prim.Native.Nat.{ℕ, ◌+◌, ◌*◌, ◌≤◌}
 use native.Mathlib.Omega.{arith}
 use lib.Dec.{lit≤}
 use lib.ListN.{length}
+use Rattle.std.specs.Prelude.{Result, Ok, Err, IfOk}
 use Rattle.words.specs.declared.Words.{Words}
 use Rattle.setup.specs.declared.Setup.{Setup}
 use Rattle.setup.proofs.SetupLaws.{Configured, ok_configured, area_few, area_sized, Counted}
@@ -19,11 +20,9 @@ use Rattle.request.specs.declared.Request.{Request}
 use Rattle.request.specs.declared.Request.TheVariants.{Task, Mirror, Broadcast}
 use Rattle.request.specs.Request.{expressible}
 use Rattle.request.proofs.RequestLaws.{mirror_asked}
-use Rattle.build_answers.specs.declared.BuildAnswer.{BuildAnswer}
-use Rattle.build_answers.specs.declared.BuildAnswer.TheVariants.{Done, Refused}
-use Rattle.master.specs.declared.Built.{Built}
-use Rattle.master.specs.Build.{task_area, command_area, task_count, command_count, net_for, telegram_for, outcome_of, admitted, Builds, built_of}
+use Rattle.master.specs.Build.{task_area, command_area, task_count, command_count, net_for, telegram_for, length_in, outcome_of, admitted, Builds, built_of}
 use Rattle.master.proofs.BuildLaws.{done_admitted, task_counted, command_counted}
+use Rattle.build_answers.specs.declared.BuildFault.{BuildFault}
 
 module _ (s : Setup) (c : Configured s) where
   net_most : (k adr : ℕ) (a : Area) (w : Words) → Counted s k → length (telegram_of adr (net_for s k a w)) ≤ 256
@@ -45,15 +44,19 @@ module _ (s : Setup) (c : Configured s) where
   telegram_most Mirror net e = omega (arith, length_telegram (s.node + 64) net, (mirror_asked s net e).1)
   telegram_most (Broadcast selector mask1 mask2 process) net e = net_most (command_count s) 32 (command_area (command_count s) selector mask1 mask2) process (command_counted s)
 
-pub built_most : (s : Setup) (r : Request) (net out : List ℕ) → (built_of s r net out).built.length ≤ 256
+pub built_most : (s : Setup) (r : Request) (net out : List ℕ) → length_in (built_of s r net out).built ≤ 256
 unfolding built_of
 built_most s r net out = go (admitted s (expressible s r net) (length out)) refl
   where
-    go : (a : BuildAnswer) → admitted s (expressible s r net) (length out) ≡ a → (outcome_of a (telegram_for s r net) out).built.length ≤ 256
-    go Done e =
+    go : (a : Result (Unit {0}) BuildFault) → admitted s (expressible s r net) (length out) ≡ a → length_in (outcome_of a (telegram_for s r net) out).built ≤ 256
+    go (Ok done) e =
         let p = done_admitted s (expressible s r net) (length out) e in
         telegram_most s (ok_configured s p.setup_good) r net p.asked
-    go (Refused fault) e = lit≤ tt
+    go (Err fault) e = lit≤ tt
 
-pub built_fits : (s : Setup) (r : Request) (net out : List ℕ) {b : Built} {out' : List ℕ} → Builds (built_of s r net out) b out' → b.length ≤ 256
-built_fits s r net out b = rw b.answers (built_most s r net out)
+length_fits : (b : Result ℕ BuildFault) → length_in b ≤ 256 → IfOk b (λ n. n ≤ 256)
+length_fits (Ok n) h = h
+length_fits (Err fault) h = tt
+
+pub built_fits : (s : Setup) (r : Request) (net out : List ℕ) {b : Result ℕ BuildFault} {out' : List ℕ} → Builds (built_of s r net out) b out' → IfOk b (λ n. n ≤ 256)
+built_fits s r net out {b} k = length_fits b (rw k.answers (built_most s r net out))

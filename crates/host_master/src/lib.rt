@@ -1,36 +1,40 @@
 // Telegrams are built for a host: the answer in the document's numbers (document 01, Answer numbers 30 to 32).
 #![tactic(auto)]
 
-ghost use Rattle.std.specs.Prelude.{◌≡◌, [], ◌≤◌};
+ghost use Rattle.std.specs.Prelude.{◌≡◌, [], ◌≤◌, IfOk};
 ghost use Rattle.request.specs.declared.Request.TheVariants.{Task, Mirror, Broadcast};
 ghost use Rattle.master.specs.Build.{built_of};
 ghost use Rattle.host_master.specs.Host.{host_built, BuildLeaves};
 
-use master::Built;
+use build_answers::BuildFault;
 use setup::Setup;
 use words::Words;
 
-// What a build returns: the answer's number and the telegram's length.
+// What a build returns: the answer's number and the telegram's length. C reads both, so it is no Result.
 #[repr(C)]
-#[derive(Clone, Copy)]
+#[derive(Clone, Copy, Debug, PartialEq, Eq)]
 pub struct HostBuilt {
     pub number: u32,
     pub length: u32,
 }
 
-fn give_built(built: Built) -> HostBuilt
-    requires { built.length ≤ 256 }
+fn give_built(built: Result<usize, BuildFault>) -> HostBuilt
+    requires { IfOk built (λ length. length ≤ 256) }
     ensures { result ≡ host_built built }
 {
-    let answer = built.answer;
-    let length = built.length as u32;
-    HostBuilt {
-        number: build_answers::number_built(answer),
-        length,
+    match built {
+        Ok(length) => HostBuilt {
+            number: 0,
+            length: length as u32,
+        },
+        Err(fault) => HostBuilt {
+            number: fault.into(),
+            length: 0,
+        },
     }
 }
 
-// Builds a task.
+// Builds a task. The parameters are those of C's call, one by one.
 pub fn build_task(
     setup: Setup,
     task: u8,

@@ -6,15 +6,15 @@ ghost use Rattle.request.specs.declared.Request.TheVariants.{Task};
 ghost use Rattle.reply.specs.Reply.{read_of};
 ghost use Rattle.host_reply.specs.Host.{host_reply};
 
-use read_answers::ReadAnswer;
-use reply::Reading;
+use read_answers::{ReadFault, Reading};
 use request::Request;
 use setup::Setup;
 use words::Words;
 
-// What a reading returns: the answer's number, the reply ID, the value or error number, and the process words.
+// What a reading returns: the answer's number, the reply ID, the value or error number, and the process words. It is a struct of the calls
+// for C, so there is no Result.
 #[repr(C)]
-#[derive(Clone, Copy)]
+#[derive(Clone, Copy, Debug, Default, PartialEq, Eq)]
 pub struct HostReply {
     pub number: u32,
     pub id: u32,
@@ -22,28 +22,24 @@ pub struct HostReply {
     pub process: Words,
 }
 
-fn give_reply(reading: Reading) -> HostReply
-    ensures { result ≡ host_reply reading }
+fn give_reply(read: Result<Reading, ReadFault>) -> HostReply
+    ensures { result ≡ host_reply read }
 {
-    let process = reading.process;
-    let answer = reading.answer;
-    match answer {
-        ReadAnswer::Read(content) => HostReply {
+    match read {
+        Ok(reading) => HostReply {
             number: 0,
-            id: read_answers::content_id(content),
-            value: read_answers::content_value(content),
-            process,
+            id: reading.content.id(),
+            value: reading.content.value(),
+            process: reading.process,
         },
-        ReadAnswer::Unread(fault) => HostReply {
-            number: read_answers::number_read_fault(fault),
-            id: 0,
-            value: 0,
-            process,
+        Err(fault) => HostReply {
+            number: fault.into(),
+            ..HostReply::default()
         },
     }
 }
 
-// Reads the reply to a task.
+// Reads the reply to a task. The parameters are those of C's call, one by one.
 pub fn read_reply(
     setup: Setup,
     task: u8,

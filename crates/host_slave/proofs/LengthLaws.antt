@@ -6,26 +6,27 @@ use Prim.Native.Nat.{ℕ, ◌+◌, ◌-◌, ◌≤◌}
 use native.Mathlib.Omega.{arith}
 use lib.Dec.{lit≤}
 use lib.ListN.{length}
+use Rattle.std.specs.Prelude.{Result, Ok, Err}
 use Rattle.words.specs.declared.Words.{Words}
 use Rattle.setup.specs.declared.Setup.{Setup}
 use Rattle.setup.specs.SetupRules.{area_count, other_node, other_length}
 use Rattle.setup.proofs.SetupLaws.{Configured, ok_configured, own_words, area_sized}
 use Rattle.address.specs.Address.{decoded_of}
-use Rattle.address.specs.declared.Decoded.{Decoded}
-use Rattle.address.specs.declared.Decoded.TheVariants.{Normal, Mirror, Broadcast, Unread}
+use Rattle.address.specs.declared.Telegram.{Telegram}
+use Rattle.address.specs.declared.Fault.{Fault}
+use Rattle.address.specs.declared.Telegram.TheVariants.{Normal, Mirror, Broadcast}
 use Rattle.address.proofs.DecodedLaws.{telegram_framed, normal_bounds}
 use Rattle.area.specs.declared.Area.{Area}
 use Rattle.area.specs.Net.{fixed_words, process_words}
 use Rattle.area.proofs.WordLaws.{length_fixed, length_process}
 use Rattle.net.proofs.NetLaws.{length_sent}
-use Rattle.opening.specs.declared.Opening.{Opening}
-use Rattle.opening.specs.declared.Opening.TheVariants.{Passed, Closed}
 use Rattle.opening.specs.Lent.{Memory}
 use Rattle.opening.proofs.AnswersLaws.{passed_opened}
 use Rattle.control.specs.Control.{void_in}
 use Rattle.slave.specs.declared.Served.{Served}
 use Rattle.slave.specs.Slave.{Call, Leaves, lent_by, opening_at, reply_of, task_at, normal_case, mirror_case, broadcast_case, execute_decoded, call_opened, call_of}
 use Rattle.slave.proofs.CaseLaws.{normal_other_node, normal_other_length, normal_replied, mirror_other_node, mirror_sent, broadcast_other_length, broadcast_void, broadcast_taken, executed, called}
+use Rattle.slave_answers.specs.declared.OpeningFault.{OpeningFault}
 
 -- the reply of a telegram with n net bytes has n of them too
 reply_as_long : (s : Setup) (n : ℕ) (a : Area) (status : Words) → Configured s → other_length s n ≡ false → length (reply_of s n a status) ≡ n + 4
@@ -63,22 +64,22 @@ module _ (k : Call) where
       go false true e f = rw (broadcast_void n k e f) (lit≤ tt)
       go false false e f = rw (broadcast_taken n k e f) (lit≤ tt)
 
-  executed_most : Configured k.setup → (d : Decoded) → decoded_of k.received ≡ d → (execute_decoded d k).served.length ≤ 256
-  executed_most c (Normal node start end) e =
-      let f = telegram_framed k.received (Normal node start end) e refl in
+  executed_most : Configured k.setup → (d : Result Telegram Fault) → decoded_of k.received ≡ d → (execute_decoded d k).served.length ≤ 256
+  executed_most c (Ok (Normal node start end)) e =
+      let f = telegram_framed k.received (Ok (Normal node start end)) e refl in
       let b = normal_bounds k.received node start end e in
       normal_most node (end - start) c (omega (arith, b.0, b.1, f.counted.count, f.counted.high))
-  executed_most c (Mirror node) e =
-      let f = telegram_framed k.received (Mirror node) e refl in
+  executed_most c (Ok (Mirror node)) e =
+      let f = telegram_framed k.received (Ok (Mirror node)) e refl in
       mirror_most node (omega (arith, f.counted.count, f.counted.high))
-  executed_most c Broadcast e = broadcast_most (length k.received - 4)
-  executed_most c (Unread fault) e = lit≤ tt
+  executed_most c (Ok Broadcast) e = broadcast_most (length k.received - 4)
+  executed_most c (Err fault) e = lit≤ tt
 
-  opened_most : (o : Opening) → opening_at k ≡ o → (call_opened o k).served.length ≤ 256
-  opened_most Passed e =
+  opened_most : (o : Result (Unit {0}) OpeningFault) → opening_at k ≡ o → (call_opened o k).served.length ≤ 256
+  opened_most (Ok done) e =
       rw (executed k (decoded_of k.received) refl)
       (executed_most (ok_configured k.setup (passed_opened (lent_by k) e).setup_good) (decoded_of k.received) refl)
-  opened_most (Closed fault) e = lit≤ tt
+  opened_most (Err fault) e = lit≤ tt
 
   pub call_most : (call_of k).served.length ≤ 256
   call_most = rw (called k (opening_at k) refl) (opened_most (opening_at k) refl)

@@ -25,7 +25,7 @@ pub fn at_most(double: bool, signed: bool, a: u32, b: u32) -> bool
 fn fits_in(double: bool, v: u32) -> bool
     ensures { result ≡ fits_in double v }
 {
-    if double { true } else { v <= 65535 }
+    double || v <= 65535
 }
 
 // Whether a value is within a record's limits.
@@ -33,12 +33,9 @@ fn fits_in(double: bool, v: u32) -> bool
 pub fn within(e: Entry, v: u32) -> bool
     ensures { result ≡ is_within e v }
 {
-    if fits_in(e.double, v) {
-        if at_most(e.double, e.signed, e.minimum, v) {
-            return at_most(e.double, e.signed, v, e.maximum);
-        }
-    }
-    false
+    fits_in(e.double, v)
+        && at_most(e.double, e.signed, e.minimum, v)
+        && at_most(e.double, e.signed, v, e.maximum)
 }
 
 // Whether a record keeps the rules that it can break by itself.
@@ -46,19 +43,10 @@ pub fn within(e: Entry, v: u32) -> bool
 pub fn entry_ok(e: Entry) -> bool
     ensures { result ≡ entry_ok e }
 {
-    if 31999 < e.number {
-        return false;
-    }
-    if 254 < e.elements {
-        return false;
-    }
-    if e.spare != 0 {
-        return false;
-    }
-    if fits_in(e.double, e.minimum) {
-        if fits_in(e.double, e.maximum) {
-            return at_most(e.double, e.signed, e.minimum, e.maximum);
-        }
-    }
-    false
+    e.number <= 31999
+        && e.elements <= 254
+        && e.spare == 0
+        && fits_in(e.double, e.minimum)
+        && fits_in(e.double, e.maximum)
+        && at_most(e.double, e.signed, e.minimum, e.maximum)
 }

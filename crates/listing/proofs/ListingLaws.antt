@@ -4,10 +4,12 @@ use mathlib.Core.Bool.{true}
 use mathlib.Core.List.{List, [], ◌++◌}
 use Prim.Native.Nat.{ℕ, ◌≤◌}
 use lib.ListN.{length}
+use Rattle.std.specs.Prelude.{Result, Ok}
 use Rattle.store.specs.Placed.{put_all, joined}
 use Rattle.store.proofs.StoreLaws.{all_append}
 use Rattle.address.specs.Address.{decoded_of}
-use Rattle.address.specs.declared.Decoded.{Decoded}
+use Rattle.address.specs.declared.Telegram.{Telegram}
+use Rattle.address.specs.declared.Fault.{Fault}
 use Rattle.address.proofs.DecodedLaws.{is_telegram, telegram_framed}
 use Rattle.listing.specs.Listing.{pieces_of, listing}
 
@@ -27,10 +29,13 @@ more {l} {from} {xss} w yss p e = record {
 
 -- ---- by what the bytes decode to
 
-pub listing_by : (t : List ℕ) (d : Decoded) → decoded_of t ≡ d → listing t ≡ joined (pieces_of t d)
+pub listing_by : (t : List ℕ) (d : Result Telegram Fault) → decoded_of t ≡ d → listing t ≡ joined (pieces_of t d)
 unfolding listing
-listing_by t d e = ap (λ (x : Decoded). joined (pieces_of t x)) e
+listing_by t d e = ap (λ (x : Result Telegram Fault). joined (pieces_of t x)) e
 
 -- one of the three kinds has at least five bytes
 pub telegram_long : (t : List ℕ) → is_telegram (decoded_of t) ≡ true → 5 ≤ length t
 telegram_long t h = (telegram_framed t (decoded_of t) refl h).counted.long
+
+pub ok_long : (t : List ℕ) (telegram : Telegram) → decoded_of t ≡ Ok telegram → 5 ≤ length t
+ok_long t telegram e = telegram_long t (ap is_telegram e)

@@ -3,14 +3,15 @@
 --     refused_pieces ..         the text where one of 10 to 15 applies
 --     listing t                 the text of the bytes t
 --     listed_of received out    the text of the first 300 bytes, written at the start of `out` where it fits
-use Rattle.std.specs.Prelude.{ℕ, ◌%◌, List, [], ◌∷◌, length, take}
+use Rattle.std.specs.Prelude.{ℕ, ◌%◌, List, [], ◌∷◌, length, take, Result, Ok, Err}
 use Rattle.words.specs.Words.{byte_at}
 use Rattle.text.specs.Digits.{ascii, digits}
 use Rattle.store.specs.Placed.{Placed, put_out, joined}
 use Rattle.frame.specs.Frame.{last_of}
 use Rattle.address.specs.Address.{decoded_of, fault_number}
-use Rattle.address.specs.declared.Decoded.{Decoded}
-use Rattle.address.specs.declared.Decoded.TheVariants.{Normal, Mirror, Broadcast, Unread}
+use Rattle.address.specs.declared.Fault.{Fault}
+use Rattle.address.specs.declared.Telegram.{Telegram}
+use Rattle.address.specs.declared.Telegram.TheVariants.{Normal, Mirror, Broadcast}
 
 -- the first line
 abbrev pub header : List ℕ
@@ -34,11 +35,11 @@ abbrev pub good_text : List ℕ → ℕ → List ℕ → List (List ℕ)
 good_text t node kind = good_pieces (length t) (byte_at t 1) node kind (byte_at t (last_of t))
 
 -- by kind; the node of a broadcast is ADR's bits 0 to 4 (ours)
-abbrev pub pieces_of : List ℕ → Decoded → List (List ℕ)
-pieces_of t (Normal node start end) = good_text t node (ascii "normal")
-pieces_of t (Mirror node) = good_text t node (ascii "mirror")
-pieces_of t Broadcast = good_text t (byte_at t 2 % 32) (ascii "broadcast")
-pieces_of t (Unread fault) = refused_pieces (length t) (fault_number fault)
+abbrev pub pieces_of : List ℕ → Result Telegram Fault → List (List ℕ)
+pieces_of t (Ok (Normal node start end)) = good_text t node (ascii "normal")
+pieces_of t (Ok (Mirror node)) = good_text t node (ascii "mirror")
+pieces_of t (Ok Broadcast) = good_text t (byte_at t 2 % 32) (ascii "broadcast")
+pieces_of t (Err fault) = refused_pieces (length t) (fault_number fault)
 
 unfoldable pub listing : List ℕ → List ℕ
 listing t = joined (pieces_of t (decoded_of t))

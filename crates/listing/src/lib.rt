@@ -6,7 +6,9 @@ ghost use Rattle.text.specs.Digits.{ascii, digits};
 ghost use Rattle.store.specs.Placed.{put_out, put_all, joined};
 ghost use Rattle.listing.specs.Listing.{header, good_pieces, good_text, refused_pieces, listing, listed_of};
 
-use address::Decoded;
+use address::Telegram;
+
+// list, list_decoded, list_good and list_refused return 0 where nothing is written, and no Option: uss_list returns that 0 to C.
 
 // Writes a label and a number behind it.
 fn write_field(out: &mut [u8], at: usize, label: &[u8], n: u32) -> usize
@@ -75,32 +77,27 @@ fn list_refused(count: u32, number: u32, out: &mut [u8]) -> usize
 }
 
 // Lists at most 300 bytes, by what they decode to.
+#[tactic(auto, unfolding(crate::specs::Listing::listing), using(crate::proofs::ListingLaws::ok_long))]
 fn list_decoded(t: &[u8], out: &mut [u8]) -> usize
     requires { length t.now ≤ 300 }
     ensures value { result ≡ (put_out out.old 0 (listing t.now)).place }
     ensures out_after { out.new ≡ (put_out out.old 0 (listing t.now)).bytes }
 {
     match address::decode(t) {
-        Decoded::Normal {
-            node,
-            net_start,
-            net_end,
-        } => list_good(t, node, b"normal", out),
-        Decoded::Mirror { node } => list_good(t, node, b"mirror", out),
-        Decoded::Broadcast => list_good(t, t[2] % 32, b"broadcast", out),
-        Decoded::Unread(fault) => list_refused(t.len() as u32, address::number_fault(fault), out),
+        Ok(Telegram::Normal { node, .. }) => list_good(t, node, b"normal", out),
+        Ok(Telegram::Mirror { node }) => list_good(t, node, b"mirror", out),
+        Ok(Telegram::Broadcast) => list_good(t, t[2] % 32, b"broadcast", out),
+        Err(fault) => list_refused(t.len() as u32, fault.into(), out),
     }
 }
 
 // Writes the listing of the first 300 bytes to the start of `out` and returns its length; where it does not fit,
 // writes nothing and returns 0.
-#[tactic(auto, unfolding(crate::specs::Listing::listed_of))]
+#[tactic(auto, unfolding(crate::specs::Listing::listed_of), using(crate::proofs::LengthLaws::take_first, crate::proofs::LengthLaws::placed_first))]
 pub fn list(received: &[u8], out: &mut [u8]) -> u32
     ensures value { result ≡ (listed_of received.now out.old).place }
     ensures out_after { out.new ≡ (listed_of received.now out.old).bytes }
 {
-    if 300 < received.len() {
-        return list_decoded(&received[..300], out) as u32;
-    }
-    list_decoded(received, out) as u32
+    let first = received.len().min(300);
+    list_decoded(&received[..first], out) as u32
 }

@@ -6,10 +6,12 @@
 --     command_count s            how many words the area of a broadcast has
 --     net_for s k area ..        the net bytes of an area in k words and process words
 --     telegram_for s r net       the telegram of a request
+--     length_in r                the length that a result reports
+--     fit                        nothing is refused
 --     admit_rows s askable ..    the lines 30, 31, 32; askable says whether the request can be asked
---     admitted s askable room the first of them that applies, or none
---     built_of s r net out     the answer, the length and the buffer afterwards
-use Rattle.std.specs.Prelude.{◌≡◌, ℕ, ◌+◌, ◌*◌, ◌%◌, Bool, not, cond, List, [], ◌∷◌, eqb, ltb, length}
+--     admitted s askable room    the first of them that applies, or none
+--     built_of s r net out       the telegram's length or the refusal, and the buffer afterwards
+use Rattle.std.specs.Prelude.{◌≡◌, ℕ, ◌+◌, ◌*◌, ◌%◌, Bool, not, cond, List, [], ◌∷◌, eqb, ltb, length, Result, Ok, Err}
 use Rattle.rows.specs.Rows.{first_of}
 use Rattle.words.specs.declared.Words.{Words}
 use Rattle.setup.specs.declared.Setup.{Setup}
@@ -23,9 +25,6 @@ use Rattle.request.specs.declared.Request.TheVariants.{Task, Mirror, Broadcast}
 use Rattle.request.specs.Request.{expressible}
 use Rattle.build_answers.specs.declared.BuildFault.{BuildFault}
 use Rattle.build_answers.specs.declared.BuildFault.TheVariants.{BadSetup, NotExpressible, ShortBuffer}
-use Rattle.build_answers.specs.declared.BuildAnswer.{BuildAnswer}
-use Rattle.build_answers.specs.declared.BuildAnswer.TheVariants.{Done, Refused}
-use Rattle.master.specs.declared.Built.{Built}
 
 -- PKE is task ID and base, IND is page and index
 unfoldable pub task_area : ℕ → ℕ → ℕ → ℕ → Area
@@ -52,39 +51,48 @@ telegram_for s (Task id number index value process) net = telegram_of s.node (ne
 telegram_for s Mirror net = telegram_of (s.node + 64) net
 telegram_for s (Broadcast selector mask1 mask2 process) net = telegram_of 32 (net_for s (command_count s) (command_area (command_count s) selector mask1 mask2) process)
 
+-- the length that a build's result reports: 0 in a refusal
+abbrev pub length_in : Result ℕ BuildFault → ℕ
+length_in (Ok length) = length
+length_in (Err fault) = 0
+
 pub record BuildOutcome : Type 0 where
-  pub built : Built
+  pub built : Result ℕ BuildFault
   pub out : List ℕ
 
 -- what a build that returns r leaves in the buffer
-pub record Builds (o : BuildOutcome) (r : Built) (bytes : List ℕ) : Type 0 where
+pub record Builds (o : BuildOutcome) (r : Result ℕ BuildFault) (bytes : List ℕ) : Type 0 where
   pub answers : r ≡ o.built
   pub bytes_are : bytes ≡ o.out
 
--- a refusal writes nothing and reports 0
+-- a refusal writes nothing
 abbrev pub unbuilt : BuildFault → List ℕ → BuildOutcome
-unbuilt fault out = record { built = record { answer = Refused fault; length = 0 }; out = out }
+unbuilt fault out = record { built = Err fault; out = out }
 
 -- only the telegram is written
 abbrev pub sent : List ℕ → List ℕ → BuildOutcome
-sent telegram out = record { built = record { answer = Done; length = length telegram }; out = written out telegram }
+sent telegram out = record { built = Ok (length telegram); out = written out telegram }
 
 -- a writer that returns n leaves the telegram so
 pub record Sends (telegram out : List ℕ) (n : ℕ) (bytes : List ℕ) : Type 0 where
   pub long : n ≡ length telegram
   pub there : bytes ≡ written out telegram
 
-abbrev pub outcome_of : BuildAnswer → List ℕ → List ℕ → BuildOutcome
-outcome_of Done telegram out = sent telegram out
-outcome_of (Refused fault) telegram out = unbuilt fault out
+-- nothing is refused
+abbrev pub fit : Result (Unit {0}) BuildFault
+fit = Ok tt
+
+abbrev pub outcome_of : Result (Unit {0}) BuildFault → List ℕ → List ℕ → BuildOutcome
+outcome_of (Ok done) telegram out = sent telegram out
+outcome_of (Err fault) telegram out = unbuilt fault out
 
 -- set-up as 20; request not expressible; buffer under 256
-abbrev pub admit_rows : Setup → Bool → ℕ → List (Bool × BuildAnswer)
+abbrev pub admit_rows : Setup → Bool → ℕ → List (Bool × Result (Unit {0}) BuildFault)
 admit_rows s askable room =
-    (not (setup_ok s), Refused BadSetup) ∷ (not askable, Refused NotExpressible) ∷ (ltb room 256, Refused ShortBuffer) ∷ []
+    (not (setup_ok s), Err BadSetup) ∷ (not askable, Err NotExpressible) ∷ (ltb room 256, Err ShortBuffer) ∷ []
 
-unfoldable pub admitted : Setup → Bool → ℕ → BuildAnswer
-admitted s askable room = first_of (admit_rows s askable room) Done
+unfoldable pub admitted : Setup → Bool → ℕ → Result (Unit {0}) BuildFault
+admitted s askable room = first_of (admit_rows s askable room) fit
 
 unfoldable pub built_of : Setup → Request → List ℕ → List ℕ → BuildOutcome
 built_of s r net out = outcome_of (admitted s (expressible s r net) (length out)) (telegram_for s r net) out

@@ -1,20 +1,21 @@
 -- The telegram with an area of 0, 3 or 4 words: its length, and when it is written. Assumes nothing.
-use mathlib.Core.Path.{◌≡◌, refl, sym, ◌∙◌}
+use mathlib.Core.Path.{◌≡◌, refl, sym, ap}
 use mathlib.Core.Logic.{inl, inr}
-use mathlib.Core.Bool.{Bool, true, false, ◌||◌, cond, false≢true}
+use mathlib.Core.Bool.{Bool, true, false, not, ◌||◌, false≢true}
 use mathlib.Core.List.{List}
-use Prim.Native.Nat.{ℕ, ◌+◌, ◌*◌, ◌≤◌, ◌<◌}
+use Prim.Native.Nat.{ℕ, ◌+◌, ◌*◌, ◌≤◌}
 use native.Mathlib.Omega.{arith}
-use borrow.Author.Tests.{le-ltb, lt-ltb, ne_eqb, eqb-true, eqb-false}
-use lib.Dec.{eqb}
+use borrow.Author.Tests.{le-ltb, ne_eqb, eqb-true, eqb-false, ltb-false, not-false}
+use lib.Dec.{eqb, ltb}
 use lib.ListN.{length}
-use lib.Seq.{sets}
+use Rattle.std.specs.Prelude.{Some, None}
+use Rattle.rows.proofs.RowsLaws.{row_passed}
 use Rattle.words.specs.declared.Words.{Words}
 use Rattle.area.specs.declared.Area.{Area}
-use Rattle.area.specs.Net.{bytes_of, fixed_words, process_words, net_of}
+use Rattle.area.specs.Net.{fixed_words, process_words, net_of}
 use Rattle.area.proofs.WordLaws.{Sized, length_fixed, length_process}
 use Rattle.net.specs.Telegram.{telegram_of, written}
-use Rattle.net.specs.Normal.{is_area, normal_of, normal_length}
+use Rattle.net.specs.Normal.{is_area, writable, normal_of, normal_length}
 use Rattle.net.proofs.SealLaws.{length_telegram}
 use Rattle.net.proofs.NetLaws.{length_sent}
 
@@ -42,38 +43,41 @@ module _ (a : Area) (n : ℕ) (w : Words) (pzd : ℕ) (few : pzd ≤ 4) (sized :
 
   -- where the telegram can be sent, it is
   pub normal_sent : (out : List ℕ) (adr : ℕ) → 256 ≤ length out → 1 ≤ n + pzd → n ≤ 4
-      → (normal_length out a n w pzd ≡ length (telegram_of adr (net_of (fixed_words n a) (process_words pzd w)))) × (normal_of out adr a n w pzd ≡ written out (telegram_of adr (net_of (fixed_words n a) (process_words pzd w))))
+      → (normal_length out a n w pzd ≡ Some (length (telegram_of adr (net_of (fixed_words n a) (process_words pzd w))))) × (normal_of out adr a n w pzd ≡ written out (telegram_of adr (net_of (fixed_words n a) (process_words pzd w))))
   unfolding normal_of normal_length
   normal_sent out adr room some short =
       rw (sized_area n sized short, le-ltb 4 pzd few, ne_eqb (n + pzd) 0 (λ e. omega arith), le-ltb (length out) 256 room)
-      (sym (length_telegram adr (net_of (fixed_words n a) (process_words pzd w))), refl)
+      (ap Some (sym (length_telegram adr (net_of (fixed_words n a) (process_words pzd w)))), refl)
 
--- where it cannot, the buffer is as it was: no area of n words, too many process words, a short buffer, no word at all
-module _ (out : List ℕ) (adr : ℕ) (a : Area) (n : ℕ) (w : Words) (pzd : ℕ) where
-  abbrev pub Unsent : Type 0
-  Unsent = (0 ≡ normal_length out a n w pzd) × (out ≡ normal_of out adr a n w pzd)
+-- where it cannot, the buffer is as it was
+pub normal_unsent : (out : List ℕ) (adr : ℕ) (a : Area) (n : ℕ) (w : Words) (pzd : ℕ) → writable out n pzd ≡ false
+    → (None ≡ normal_length out a n w pzd) × (out ≡ normal_of out adr a n w pzd)
+unfolding normal_of normal_length
+normal_unsent out adr a n w pzd e = rw e (refl, refl)
 
-  pub normal_no_area : is_area n ≡ false → Unsent
-  unfolding normal_of normal_length
-  normal_no_area e = rw e (refl, refl)
+pub sized_some : (n : ℕ) → Sized n → (n ≡ 0 → ⊥) → 3 ≤ n
+sized_some n (inl e) some = absurd (some e)
+sized_some n (inr h) some = h
 
-  pub normal_many : is_area n ≡ true → 4 < pzd → Unsent
-  unfolding normal_of normal_length
-  normal_many e h = rw (e, lt-ltb 4 pzd h) (refl, refl)
+-- what can be written
+pub record Writable (out : List ℕ) (n pzd : ℕ) : Type 0 where
+  pub sized : Sized n
+  pub short : n ≤ 4
+  pub few : pzd ≤ 4
+  pub some : 1 ≤ n + pzd
+  pub room : 256 ≤ length out
 
-  pub normal_short : is_area n ≡ true → pzd ≤ 4 → length out < 256 → Unsent
-  unfolding normal_of normal_length
-  normal_short e few room = rw (e, le-ltb 4 pzd few, lt-ltb (length out) 256 room) (go (eqb (n + pzd) 0))
-    where
-      go : (b : Bool) → (0 ≡ cond (cond b false false) (length (net_of (fixed_words n a) (process_words pzd w)) + 4) 0)
-          × (out ≡ cond (cond b false false) (written out (telegram_of adr (net_of (fixed_words n a) (process_words pzd w)))) out)
-      go true = (refl, refl)
-      go false = (refl, refl)
-
-  pub normal_none : n + pzd ≡ 0 → {out₁ out₂ : List ℕ} → out₁ ≡ sets out 3 (bytes_of (fixed_words n a)) → out₂ ≡ sets out₁ (n * 2 + 3) (bytes_of (process_words pzd w))
-      → (0 ≡ normal_length out a n w pzd) × (out₂ ≡ normal_of out adr a n w pzd)
-  unfolding normal_of normal_length
-  normal_none none {out₁} e f =
-      let n0 : n ≡ 0 = omega arith in
-      let p0 : pzd ≡ 0 = omega arith in
-      rw (n0, p0) (refl, (rw (n0, p0) at f) ∙ (rw n0 at e))
+pub can_write : (out : List ℕ) (n pzd : ℕ) → writable out n pzd ≡ true → Writable out n pzd
+can_write out n pzd e =
+    let p1 = row_passed (λ b. b) (not (is_area n)) false _ refl e in
+    let p2 = row_passed (λ b. b) (ltb 4 pzd) false _ refl p1.1 in
+    let p3 = row_passed (λ b. b) (eqb (n + pzd) 0) false _ refl p2.1 in
+    let p4 = row_passed (λ b. b) (ltb (length out) 256) false _ refl p3.1 in
+    let area = area_sized n (not-false _ p1.0) in
+    record {
+      sized = area.0;
+      short = area.1;
+      few = ltb-false 4 pzd p2.0;
+      some = omega (arith, eqb-false (n + pzd) 0 p3.0);
+      room = ltb-false (length out) 256 p4.0;
+    }

@@ -3,8 +3,8 @@
 --     is_area n               n words are an area of a fixed setting: 0, 3 or 4
 --     writable out n pzd      the telegram can be written
 --     normal_of out adr ..    the buffer with the telegram at its start; unchanged where it cannot be written (ours)
---     normal_length out ..    the telegram's length, or 0
-use Rattle.std.specs.Prelude.{ℕ, ◌+◌, List, [], ◌∷◌, Bool, true, false, not, ◌||◌, cond, ltb, eqb, length}
+--     normal_length out ..    the telegram's length, or none
+use Rattle.std.specs.Prelude.{ℕ, ◌+◌, List, [], ◌∷◌, Bool, true, false, not, ◌||◌, cond, ltb, eqb, length, Option, Some, None}
 use Rattle.rows.specs.Rows.{first_of}
 use Rattle.words.specs.declared.Words.{Words}
 use Rattle.area.specs.declared.Area.{Area}
@@ -22,5 +22,5 @@ writable out n pzd =
 unfoldable pub normal_of : List ℕ → ℕ → Area → ℕ → Words → ℕ → List ℕ
 normal_of out adr a n w pzd = cond (writable out n pzd) (written out (telegram_of adr (net_of (fixed_words n a) (process_words pzd w)))) out
 
-unfoldable pub normal_length : List ℕ → Area → ℕ → Words → ℕ → ℕ
-normal_length out a n w pzd = cond (writable out n pzd) (length (net_of (fixed_words n a) (process_words pzd w)) + 4) 0
+unfoldable pub normal_length : List ℕ → Area → ℕ → Words → ℕ → Option ℕ
+normal_length out a n w pzd = cond (writable out n pzd) (Some (length (net_of (fixed_words n a) (process_words pzd w)) + 4)) None

@@ -7,6 +7,7 @@ use native.Mathlib.Omega.{arith}
 use borrow.Author.Tests.{lt-ltb, le-ltb, le-leb, eq-eqb, ltb-false, leb-true, eqb-true}
 use lib.ListN.{length}
 use lib.Dec.{eqb, leb, ltb}
+use Rattle.std.specs.Prelude.{Result, Err}
 use Rattle.rows.specs.Rows.{first_of, Chosen}
 use Rattle.rows.proofs.RowsLaws.{first_chosen, chosen_first}
 use Rattle.rows.proofs.BoolLaws.{and_left, and_right}
@@ -14,23 +15,21 @@ use Rattle.setup.specs.SetupRules.{setup_ok}
 use Rattle.table.specs.Records.{entries, counts_of}
 use Rattle.slave_answers.specs.declared.OpeningFault.{OpeningFault}
 use Rattle.slave_answers.specs.declared.OpeningFault.TheVariants.{BadSetup, BadTable, BadValues, BadPlaces, ShortBuffer}
-use Rattle.opening.specs.declared.Opening.{Opening}
-use Rattle.opening.specs.declared.Opening.TheVariants.{Passed, Closed}
 use Rattle.opening.specs.Rules.{rising_from, each_ok, runs_ok, table_ok, values_ok, list_ok}
 use Rattle.opening.specs.Lent.{Lent}
-use Rattle.opening.specs.Answers.{opening_rows, opening_of, content_of}
+use Rattle.opening.specs.Answers.{opening_rows, opening_of, content_of, passed}
 
 -- three tests refuse: so do they with a fourth after them
-content_refuse : (a b g d : Bool) (f : OpeningFault) → first_of ((not a, Closed BadTable) ∷ (not b, Closed BadValues) ∷ (not g, Closed BadPlaces) ∷ []) Passed ≡ Closed f
-    → first_of ((not a, Closed BadTable) ∷ (not b, Closed BadValues) ∷ (not g, Closed BadPlaces) ∷ (d, Closed ShortBuffer) ∷ []) Passed ≡ Closed f
+content_refuse : (a b g d : Bool) (f : OpeningFault) → first_of ((not a, Err BadTable) ∷ (not b, Err BadValues) ∷ (not g, Err BadPlaces) ∷ []) passed ≡ Err f
+    → first_of ((not a, Err BadTable) ∷ (not b, Err BadValues) ∷ (not g, Err BadPlaces) ∷ (d, Err ShortBuffer) ∷ []) passed ≡ Err f
 content_refuse false b g d f e = e
 content_refuse true false g d f e = e
 content_refuse true true false d f e = e
 content_refuse true true true d f e = let z : ◌≡◌ {A = ℕ} 0 1 = cc in absurd (omega arith)
 
 -- three tests pass: the fourth decides
-content_pass : (a b g d : Bool) → first_of ((not a, Closed BadTable) ∷ (not b, Closed BadValues) ∷ (not g, Closed BadPlaces) ∷ []) Passed ≡ Passed
-    → first_of ((not a, Closed BadTable) ∷ (not b, Closed BadValues) ∷ (not g, Closed BadPlaces) ∷ (d, Closed ShortBuffer) ∷ []) Passed ≡ cond d (Closed ShortBuffer) Passed
+content_pass : (a b g d : Bool) → first_of ((not a, Err BadTable) ∷ (not b, Err BadValues) ∷ (not g, Err BadPlaces) ∷ []) passed ≡ passed
+    → first_of ((not a, Err BadTable) ∷ (not b, Err BadValues) ∷ (not g, Err BadPlaces) ∷ (d, Err ShortBuffer) ∷ []) passed ≡ cond d (Err ShortBuffer) passed
 content_pass false b g d e = let z : ◌≡◌ {A = ℕ} 0 1 = cc in absurd (omega arith)
 content_pass true false g d e = let z : ◌≡◌ {A = ℕ} 0 1 = cc in absurd (omega arith)
 content_pass true true false d e = let z : ◌≡◌ {A = ℕ} 0 1 = cc in absurd (omega arith)
@@ -50,30 +49,30 @@ module _ (l : Lent) where
   abbrev room_short : Bool
   room_short = ltb l.room 256
 
-  pub open_setup : setup_ok l.setup ≡ false → opening_of l ≡ Closed BadSetup
+  pub open_setup : setup_ok l.setup ≡ false → opening_of l ≡ Err BadSetup
   unfolding opening_of
   open_setup a = rw a
 
-  pub open_content : (f : OpeningFault) → setup_ok l.setup ≡ true → content_of l.table l.memory.values l.list ≡ Closed f → opening_of l ≡ Closed f
+  pub open_content : (f : OpeningFault) → setup_ok l.setup ≡ true → content_of l.table l.memory.values l.list ≡ Err f → opening_of l ≡ Err f
   unfolding opening_of content_of
   open_content f a e = rw a (content_refuse table_good values_good list_good room_short f e)
 
-  pub open_buffer : setup_ok l.setup ≡ true → content_of l.table l.memory.values l.list ≡ Passed → l.room < 256 → opening_of l ≡ Closed ShortBuffer
+  pub open_buffer : setup_ok l.setup ≡ true → content_of l.table l.memory.values l.list ≡ passed → l.room < 256 → opening_of l ≡ Err ShortBuffer
   unfolding opening_of content_of
   open_buffer a e h = rw a (content_pass table_good values_good list_good room_short e ∙ rw (lt-ltb l.room 256 h))
 
-  pub open_passed : setup_ok l.setup ≡ true → content_of l.table l.memory.values l.list ≡ Passed → 256 ≤ l.room → opening_of l ≡ Passed
+  pub open_passed : setup_ok l.setup ≡ true → content_of l.table l.memory.values l.list ≡ passed → 256 ≤ l.room → opening_of l ≡ passed
   unfolding opening_of content_of
   open_passed a e h = rw a (content_pass table_good values_good list_good room_short e ∙ rw (le-ltb l.room 256 h))
 
   -- a number is given exactly when its line holds and no earlier one does
-  pub opening_chosen : Chosen (opening_rows l) Passed (opening_of l)
+  pub opening_chosen : Chosen (opening_rows l) passed (opening_of l)
   unfolding opening_of
-  opening_chosen = first_chosen (opening_rows l) Passed
+  opening_chosen = first_chosen (opening_rows l) passed
 
-  pub chosen_opening : (r : Opening) → Chosen (opening_rows l) Passed r → r ≡ opening_of l
+  pub chosen_opening : (r : Result (Unit {0}) OpeningFault) → Chosen (opening_rows l) passed r → r ≡ opening_of l
   unfolding opening_of
-  chosen_opening r c = chosen_first (opening_rows l) Passed r c
+  chosen_opening r c = chosen_first (opening_rows l) passed r c
 
 -- the facts of what is lent, where it passed
 pub record Opened (l : Lent) : Type 0 where
@@ -90,7 +89,7 @@ pub record Opened (l : Lent) : Type 0 where
 
 -- a passing check fails each of its rows
 all_passed : (a b c g d : Bool)
-    → first_of ((not a, Closed BadSetup) ∷ (not b, Closed BadTable) ∷ (not c, Closed BadValues) ∷ (not g, Closed BadPlaces) ∷ (d, Closed ShortBuffer) ∷ []) Passed ≡ Passed
+    → first_of ((not a, Err BadSetup) ∷ (not b, Err BadTable) ∷ (not c, Err BadValues) ∷ (not g, Err BadPlaces) ∷ (d, Err ShortBuffer) ∷ []) passed ≡ passed
     → (a ≡ true) × (b ≡ true) × (c ≡ true) × (g ≡ true) × (d ≡ false)
 all_passed true true true true false e = (refl, refl, refl, refl, refl)
 all_passed false b c g d e = let z : ◌≡◌ {A = ℕ} 0 1 = cc in absurd (omega arith)
@@ -100,7 +99,7 @@ all_passed true true true false d e = let z : ◌≡◌ {A = ℕ} 0 1 = cc in ab
 all_passed true true true true true e = let z : ◌≡◌ {A = ℕ} 0 1 = cc in absurd (omega arith)
 
 module _ (l : Lent) where
-  pub passed_opened : opening_of l ≡ Passed → Opened l
+  pub passed_opened : opening_of l ≡ passed → Opened l
   unfolding opening_of
   passed_opened e =
       let t = l.table in
@@ -131,7 +130,7 @@ module _ (l : Lent) where
         buffer = ltb-false l.room 256 p.4;
       }
 
-  pub opened_passes : Opened l → opening_of l ≡ Passed
+  pub opened_passes : Opened l → opening_of l ≡ passed
   unfolding opening_of
   opened_passes o =
       let t = l.table in

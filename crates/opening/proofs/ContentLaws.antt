@@ -7,37 +7,36 @@ use native.Mathlib.Omega.{arith}
 use borrow.Author.Tests.{lt-leb, ne_eqb, eqb-true, leb-true}
 use lib.ListN.{length}
 use lib.Dec.{eqb, leb}
+use Rattle.std.specs.Prelude.{Option, Err}
 use Rattle.rows.proofs.BoolLaws.{and_right}
 use Rattle.table.specs.Records.{entries, counts_of}
-use Rattle.opening.specs.declared.Opening.TheVariants.{Passed, Closed}
 use Rattle.slave_answers.specs.declared.OpeningFault.TheVariants.{BadTable, BadValues, BadPlaces}
 use Rattle.opening.specs.Rules.{rising_from, each_ok, table_ok, values_ok, list_ok}
-use Rattle.opening.specs.Lent.{PlaceList}
-use Rattle.opening.specs.Answers.{content_of}
+use Rattle.opening.specs.Answers.{content_of, passed}
 
-content_tests : (a b g : Bool) → cond (not a) (Closed BadTable) (cond (not b) (Closed BadValues) (cond (not g) (Closed BadPlaces) Passed))
-    ≡ cond (a && b) (cond g Passed (Closed BadPlaces)) (cond a (Closed BadValues) (Closed BadTable))
+content_tests : (a b g : Bool) → cond (not a) (Err BadTable) (cond (not b) (Err BadValues) (cond (not g) (Err BadPlaces) passed))
+    ≡ cond (a && b) (cond g passed (Err BadPlaces)) (cond a (Err BadValues) (Err BadTable))
 content_tests false b g = refl
 content_tests true false g = refl
 content_tests true true false = refl
 content_tests true true true = refl
 
-module _ (t vs : List ℕ) (ps : PlaceList) where
+module _ (t vs : List ℕ) (ps : Option (List ℕ)) where
   content_is : content_of t vs ps
-      ≡ cond (table_ok t && values_ok t vs) (cond (list_ok ps t) Passed (Closed BadPlaces)) (cond (table_ok t) (Closed BadValues) (Closed BadTable))
+      ≡ cond (table_ok t && values_ok t vs) (cond (list_ok ps t) passed (Err BadPlaces)) (cond (table_ok t) (Err BadValues) (Err BadTable))
   unfolding content_of
   content_is = content_tests (table_ok t) (values_ok t vs) (list_ok ps t)
 
-  pub content_passed : (table_ok t && values_ok t vs) ≡ true → list_ok ps t ≡ true → content_of t vs ps ≡ Passed
+  pub content_passed : (table_ok t && values_ok t vs) ≡ true → list_ok ps t ≡ true → content_of t vs ps ≡ passed
   content_passed h o = content_is ∙ rw (h, o)
 
-  pub content_places : (table_ok t && values_ok t vs) ≡ true → list_ok ps t ≡ false → content_of t vs ps ≡ Closed BadPlaces
+  pub content_places : (table_ok t && values_ok t vs) ≡ true → list_ok ps t ≡ false → content_of t vs ps ≡ Err BadPlaces
   content_places h o = content_is ∙ rw (h, o)
 
-  pub content_values : (table_ok t && values_ok t vs) ≡ false → table_ok t ≡ true → content_of t vs ps ≡ Closed BadValues
+  pub content_values : (table_ok t && values_ok t vs) ≡ false → table_ok t ≡ true → content_of t vs ps ≡ Err BadValues
   content_values h o = content_is ∙ rw (h, o)
 
-  pub content_table : table_ok t ≡ false → content_of t vs ps ≡ Closed BadTable
+  pub content_table : table_ok t ≡ false → content_of t vs ps ≡ Err BadTable
   content_table o = content_is ∙ rw o
 
 -- a table of another length, or of more records, breaks a rule

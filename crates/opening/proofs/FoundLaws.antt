@@ -9,17 +9,16 @@ use native.Mathlib.Numerals.{add-one}
 use borrow.Author.Tests.{leb-true}
 use lib.Dec.{leb}
 use lib.ListN.{length, get_or}
+use Rattle.std.specs.Prelude.{Some}
 use Rattle.rows.proofs.BoolLaws.{and_left, and_right}
 use Rattle.entry.specs.Fields.{count_of}
 use Rattle.limits.specs.Limits.{is_within, entry_ok}
 use Rattle.entry.specs.declared.Entry.{Entry}
 use Rattle.table.specs.Records.{entry_at, entries_from, entries, find_from, find_in, counts_of, first_place}
-use Rattle.table.specs.declared.Found.TheVariants.{At}
 use Rattle.table.proofs.RecordsLaws.{found_below, find_here, find_on}
-use Rattle.opening.specs.declared.Opening.TheVariants.{Passed}
 use Rattle.opening.specs.Rules.{rising_from, each_ok, run_ok, runs_ok}
 use Rattle.opening.specs.Lent.{Lent}
-use Rattle.opening.specs.Answers.{opening_of}
+use Rattle.opening.specs.Answers.{opening_of, passed}
 use Rattle.opening.proofs.AnswersLaws.{passed_opened}
 use Rattle.opening.proofs.KeptLaws.{place_below}
 
@@ -64,7 +63,7 @@ pub record InTable (l : Lent) (k : ℕ) : Type 0 where
   pub place : (i : ℕ) → i < count_of (entry_at l.table k) → first_place l.table k + i < length l.memory.values
   pub value : (i : ℕ) → i < count_of (entry_at l.table k) → is_within (entry_at l.table k) (get_or l.memory.values (first_place l.table k + i) 0) ≡ true
 
-pub passed_in_table : (l : Lent) (k : ℕ) → opening_of l ≡ Passed → k < length l.table / 12 → InTable l k
+pub passed_in_table : (l : Lent) (k : ℕ) → opening_of l ≡ passed → k < length l.table / 12 → InTable l k
 unfolding entries
 passed_in_table l k e b =
     let t = l.table in
@@ -81,13 +80,13 @@ passed_in_table l k e b =
     }
 
 -- of a record that was found by its number
-pub found_in_table : (l : Lent) (number k : ℕ) → opening_of l ≡ Passed → find_in l.table number ≡ At k → InTable l k
+pub found_in_table : (l : Lent) (number k : ℕ) → opening_of l ≡ passed → find_in l.table number ≡ Some k → InTable l k
 unfolding entries
 found_in_table l number k e f =
     let b = found_below number l.table (length l.table / 12) 0 k f in
     passed_in_table l k e (omega arith)
 
-pub found_number : (t : List ℕ) (number k : ℕ) → find_in t number ≡ At k → (entry_at t k).number ≡ number
+pub found_number : (t : List ℕ) (number k : ℕ) → find_in t number ≡ Some k → (entry_at t k).number ≡ number
 unfolding entries
 found_number t number k f = (found_below number t (length t / 12) 0 k f).is
 
@@ -110,7 +109,7 @@ rising_least t (suc n) j (suc m) least h b =
 
 -- and the search finds each by its number
 find_rising : (t : List ℕ) (n j m least : ℕ) → rising_from least (entries_from t n j) ≡ true → m < n
-    → find_from (entry_at t (j + m)).number (entries_from t n j) j ≡ At (j + m)
+    → find_from (entry_at t (j + m)).number (entries_from t n j) j ≡ Some (j + m)
 unfolding rising_from entries_from
 find_rising t zero j m least h b = absurd (omega arith)
 find_rising t (suc n) j zero least h b = simp add-zero (find_here (entry_at t j).number (entry_at t j) (entries_from t n (suc j)) j refl)
@@ -123,6 +122,6 @@ find_rising t (suc n) j (suc m) least h b =
     rw s (on ∙ rw add-one (find_rising t n (suc j) m (e + 1) q (omega arith)))
 
 -- of a table that passed, each record is found by its number
-pub record_found : (l : Lent) (k : ℕ) → opening_of l ≡ Passed → k < length l.table / 12 → find_in l.table (entry_at l.table k).number ≡ At k
+pub record_found : (l : Lent) (k : ℕ) → opening_of l ≡ passed → k < length l.table / 12 → find_in l.table (entry_at l.table k).number ≡ Some k
 unfolding entries
 record_found l k e b = simp zero-add at (find_rising l.table (length l.table / 12) 0 k 0 (passed_opened l e).rising b)

@@ -14,10 +14,9 @@ use Rattle.entry.specs.Fields.{count_of}
 use Rattle.limits.specs.Limits.{is_within}
 use Rattle.table.specs.Records.{entry_at, entries_from, entries, counts_of, first_place}
 use Rattle.table.proofs.RecordsLaws.{places_fit}
-use Rattle.opening.specs.declared.Opening.TheVariants.{Passed}
 use Rattle.opening.specs.Rules.{run_ok, runs_ok}
 use Rattle.opening.specs.Lent.{Lent, stored, lending}
-use Rattle.opening.specs.Answers.{opening_of}
+use Rattle.opening.specs.Answers.{opening_of, passed}
 use Rattle.opening.proofs.AnswersLaws.{passed_opened, opened_passes}
 
 -- what a value at place q has to keep, of records whose places start at p
@@ -91,8 +90,8 @@ module _ (t vs : List ℕ) (k i : ℕ) (below : k < length t / 12) (element : i 
       runs_set vs (first_place t k + i) v place_below (entries_from t n 0) 0 ok h
 
 -- 20 to 23 and 25 stay passed after a change of one place to a value within its record's limits
-pub change_keeps_opening : (l : Lent) (k i v : ℕ) → opening_of l ≡ Passed → k < length l.table / 12 → i < count_of (entry_at l.table k)
-    → is_within (entry_at l.table k) v ≡ true → opening_of (lending l (stored l.memory (first_place l.table k + i) v)) ≡ Passed
+pub change_keeps_opening : (l : Lent) (k i v : ℕ) → opening_of l ≡ passed → k < length l.table / 12 → i < count_of (entry_at l.table k)
+    → is_within (entry_at l.table k) v ≡ true → opening_of (lending l (stored l.memory (first_place l.table k + i) v)) ≡ passed
 change_keeps_opening l k i v e a b c =
     let t = l.table in
     let vs = l.memory.values in

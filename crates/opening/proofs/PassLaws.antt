@@ -1,11 +1,11 @@
 -- The passes over table and values, as the code goes. Assumes nothing.
-use Prim.Native.Nat.{ℕ, ◌+◌, ◌-◌, ◌*◌, ◌/◌, ◌%◌, ◌<◌, ◌≤◌}
+use Prim.Native.Nat.{ℕ, zero, suc, ◌+◌, ◌-◌, ◌*◌, ◌/◌, ◌%◌, ◌<◌, ◌≤◌}
 use mathlib.Core.Path.{◌≡◌, refl, ◌∙◌}
 use mathlib.Core.List.{List, [], ◌∷◌}
 use mathlib.Core.Bool.{Bool, true, false, ◌&&◌, and-true, and-false}
 use native.Mathlib.Omega.{arith}
 use native.Mathlib.Nat.{add-zero, zero-add, sub-zero, zero-div}
-use borrow.Author.Tests.{le-leb, lt-leb, leb-true, leb-false, eq-eqb, ne_eqb, eqb-true, eqb-false}
+use borrow.Author.Tests.{le-leb, lt-leb, leb-true, leb-false, eq-eqb, ne_eqb, eqb-true}
 use lib.ListN.{length, take, drop}
 use lib.Dec.{eqb, leb}
 use Rattle.entry.specs.declared.Entry.{Entry}
@@ -127,6 +127,10 @@ rule_all t n whole few =
 abbrev pub entries_at : List ℕ → ℕ → List Entry
 entries_at t at = entries_from t (length t / 12 - at / 12) (at / 12)
 
+pub none_test : (n : ℕ) → eqb 0 n ≡ eqb n 0
+none_test zero = refl
+none_test (suc n) = rw (ne_eqb 0 (suc n) (λ h. omega arith), ne_eqb (suc n) 0 (λ h. omega arith)) refl
+
 whole_first : (w r o n q v : Bool) → ((w && true && r && o && n) && (q && v)) ≡ (w && ((r && o && n) && (q && v)))
 whole_first false r o n q v = refl
 whole_first true r o n q v = refl
@@ -141,14 +145,11 @@ module _ (t : List ℕ) where
       (whole_first (eqb (length t % 12) 0) (rising_from 0 es) (each_ok es) (leb (counts_of es) 4096) (eqb (counts_of es) (length vs)) (runs_ok es vs 0))
 
   -- no whole record
-  pub pass_none : (vs : List ℕ) → length t < 12 → (table_ok t && values_ok t vs) ≡ (eqb 0 (length t) && eqb 0 (length vs))
+  pub pass_none : (vs : List ℕ) → length t < 12 → (table_ok t && values_ok t vs) ≡ (eqb (length t) 0 && eqb (length vs) 0)
   pass_none vs few =
       let none : entries_at t 0 ≡ [] = entries_end t (length t / 12) (0 / 12) (omega arith) in
-      pass_all vs (omega arith) ∙ rw (none, pass_end 0 0 vs) (go (eqb 0 (length t)) refl)
-    where
-      go : (b : Bool) → eqb 0 (length t) ≡ b → (eqb (length t % 12) 0 && (leb 0 32000 && leb 0 4096 && eqb 0 (length vs))) ≡ (b && eqb 0 (length vs))
-      go true p = let z = eqb-true 0 (length t) p in rw (eq-eqb (length t % 12) 0 (omega arith))
-      go false p = rw (ne_eqb (length t % 12) 0 (λ h. eqb-false 0 (length t) p (omega arith)))
+      let short : length t % 12 ≡ length t = omega arith in
+      pass_all vs (omega arith) ∙ rw (none, pass_end 0 0 vs, short, none_test (length vs)) refl
 
   pub pass_whole : (vs : List ℕ) (n : ℕ) → length t ≡ 12 * n → n ≤ 512 → (table_ok t && values_ok t vs) ≡ pass_from vs (entries_from t n 0) 0 0
   unfolding entries

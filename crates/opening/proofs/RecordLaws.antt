@@ -1,12 +1,14 @@
 -- One record and its values, as the code looks at them. Assumes nothing.
 use Prim.Native.Nat.{ℕ, suc, ◌+◌, ◌-◌, ◌/◌, ◌%◌, ◌<◌, ◌≤◌}
-use mathlib.Core.Path.{◌≡◌, refl, sym, ◌∙◌}
+use mathlib.Core.Path.{◌≡◌, refl, ◌∙◌}
 use mathlib.Core.List.{List}
-use mathlib.Core.Bool.{Bool, true, false, ◌&&◌, and-true, and-false, false≢true}
+use mathlib.Core.Bool.{Bool, true, false, ◌&&◌, and-true}
 use native.Mathlib.Omega.{arith}
-use borrow.Author.Tests.{le-leb, lt-leb, eq-eqb, ne_eqb}
+use borrow.Author.Tests.{le-leb, eq-eqb}
 use lib.ListN.{length, get_or}
 use lib.Dec.{eqb, leb}
+use Rattle.std.specs.Prelude.{Some}
+use Rattle.std.specs.Bool.{then_some}
 use Rattle.entry.specs.declared.Entry.{Entry}
 use Rattle.entry.specs.Fields.{entry_of, count_of}
 use Rattle.table.specs.declared.Record.{Record}
@@ -45,9 +47,6 @@ value_shows true true w s b p q = rw (q, p, and-true w)
 pub run_all : (l f r b : Bool) → f ≡ true → (l && r) ≡ (b && (l && true)) → (b && l) ≡ b → b ≡ (l && f && r)
 run_all l f r b h e s = rw (h, and-true l, e, and-true l, s)
 
-pub run_short : (l f r : Bool) → f ≡ false → false ≡ (l && f && r)
-run_short l f r h = rw (h, and-false l)
-
 -- one value
 pub run_one : (e : Entry) (vs : List ℕ) (place : ℕ) (r : Bool) → place < length vs → r ≡ (limits_ok e && is_within e (get_or vs place 0))
     → r ≡ (limits_ok e && leb (place + 1) (length vs) && run_ok e vs 1 place)
@@ -72,12 +71,6 @@ module _ (e : Entry) where
   unfolding entry_ok
   entry_plain = four_tests (leb e.number 31999) (leb e.elements 254) (eqb e.spare 0) (limits_ok e)
 
-  pub elements_over : 254 < e.elements → plain_ok e ≡ false
-  elements_over h = simp (lt-leb _ _ h)
-
-  pub spare_set : (e.spare ≡ 0 → ⊥) → plain_ok e ≡ false
-  spare_set h = simp (ne_eqb _ _ h, and-false)
-
   pub plain_limits : e.elements ≤ 254 → e.spare ≡ 0 → plain_ok e ≡ limits_ok e
   plain_limits q h = simp (le-leb _ _ q, eq-eqb _ _ h)
 
@@ -86,10 +79,12 @@ abbrev pub fine_of : Entry → List ℕ → ℕ → Bool
 fine_of e vs place = plain_ok e && leb (place + count_of e) (length vs) && run_ok e vs (count_of e) place
 
 module _ (e : Entry) (vs : List ℕ) (place : ℕ) where
-  pub fine_broken : (n : ℕ) → plain_ok e ≡ false → (false ≡ fine_of e vs place) × (false ≡ true → n ≡ count_of e)
-  fine_broken n h = (rw h, λ f. absurd (false≢true f))
-
   -- its n values were looked at, and its limits with them
   pub fine_run : (n : ℕ) (r : Bool) → count_of e ≡ n → plain_ok e ≡ limits_ok e → r ≡ (limits_ok e && leb (place + n) (length vs) && run_ok e vs n place)
-      → (r ≡ fine_of e vs place) × (r ≡ true → n ≡ count_of e)
-  fine_run n r c o q = (q ∙ rw (c, o), λ f. sym c)
+      → r ≡ fine_of e vs place
+  fine_run n r c o q = q ∙ rw (c, o)
+
+-- what a test gives, where it gives a number
+pub some_given : (b : Bool) (n k : ℕ) → Some n ≡ then_some b k → (b ≡ true) × (n ≡ k)
+some_given true n k e = (refl, cc)
+some_given false n k e = let z : ◌≡◌ {A = ℕ} 0 1 = cc in absurd (omega arith)

@@ -7,16 +7,17 @@ use native.Mathlib.Omega.{arith}
 use native.Mathlib.Nat.{sub-zero}
 use borrow.Author.Tests.{eq-eqb, ne_eqb, eqb-true, leb-true}
 use lib.ListN.{length}
+use Rattle.std.specs.Prelude.{Option, Some, None}
 use lib.Dec.{eqb, leb}
 use Rattle.rows.proofs.BoolLaws.{and_left, and_right}
 use Rattle.entry.specs.declared.Entry.{Entry}
 use Rattle.entry.specs.Fields.{count_of}
-use Rattle.table.specs.Records.{entry_at, entries_from, entries, places_from, places_of, counts_of}
+use Rattle.table.specs.Records.{entry_at, entries_from, entries, places_from, counts_of}
 use Rattle.table.proofs.RecordsLaws.{entries_step}
 use Rattle.opening.proofs.RecordLaws.{fine_of}
-use Rattle.opening.proofs.PassLaws.{pass_from, pass_step, pass_end, pass_whole}
+use Rattle.opening.proofs.PassLaws.{pass_from, pass_step, pass_end, pass_whole, none_test}
 use Rattle.table.proofs.PlacesLaws.{places_none, places_more, places_length}
-use Rattle.opening.specs.Lent.{lent_list}
+use Rattle.opening.specs.Lent.{RightList}
 use Rattle.opening.specs.Rules.{rising_from, each_ok, table_ok, values_ok, sums_ok, list_ok}
 
 -- what is not true is false
@@ -55,9 +56,9 @@ right_sums [] place = refl
 right_sums (e ∷ es) place = rw (eq-eqb place place refl) (right_sums es (place + count_of e))
 
 -- a list that is lent and right, as what uses it asks for it
-pub lent_right : (t : List ℕ) (listed : Bool) (ps : List ℕ) → list_ok (lent_list listed ps) t ≡ true → listed ≡ true → ps ≡ places_of t
-lent_right t true ps h l = sums_right ps (entries t) 0 h
-lent_right t false ps h l = absurd (false≢true l)
+pub lent_right : (t : List ℕ) (ps : Option (List ℕ)) → list_ok ps t ≡ true → RightList t ps
+lent_right t (Some ps) h = sums_right ps (entries t) 0 h
+lent_right t None h = tt
 
 -- with a right list there are 12 bytes for each place, and at most 512 places
 pub listed_length : (t vs ps : List ℕ) → (table_ok t && values_ok t vs && sums_ok ps (entries t) 0) ≡ true → (length t ≡ 12 * length ps) × (length ps ≤ 512)
@@ -87,14 +88,14 @@ module _ (t vs ps : List ℕ) (whole : length t ≡ 12 * length ps) where
   abbrev rest : List Entry
   rest = entries_from t (length ps - 1) 1
 
-  pub listed_none : length ps ≡ 0 → asked ≡ eqb 0 (length vs)
+  pub listed_none : length ps ≡ 0 → asked ≡ eqb (length vs) 0
   unfolding entries entries_from
   listed_none none =
       let count : length t / 12 ≡ 0 = omega arith in
       let few : length ps ≤ 512 = omega arith in
       let pass = pass_whole t vs (length ps) whole few in
       let empty = none_left ps none in
-      rw (pass, count, none, pass_end 0 0 vs, empty, sums_end 0, and-true (eqb 0 (length vs)))
+      rw (pass, count, none, pass_end 0 0 vs, empty, sums_end 0, and-true (eqb 0 (length vs)), none_test (length vs))
 
   pub listed_first : (e : Entry) → length ps ≤ 512 → 1 ≤ length ps → e ≡ entry_at t 0
       → asked ≡ ((fine_of e vs 0 && pass_from vs rest (e.number + 1) (0 + count_of e)) && sums_ok ps (e ∷ rest) 0)

@@ -8,12 +8,11 @@
 --     values_ok t vs          the exact count, and each value within its record's limits
 --     sums_ok ps es place     one place per record: the first is `place`, each further one the sum of the places before it
 --     list_ok l t             no list, or one place per record and the sums
-use Rattle.std.specs.Prelude.{ℕ, zero, suc, ◌+◌, ◌/◌, ◌%◌, List, [], ◌∷◌, Bool, true, false, ◌&&◌, length, get_or, eqb, leb}
+use Rattle.std.specs.Prelude.{ℕ, zero, suc, ◌+◌, ◌/◌, ◌%◌, List, [], ◌∷◌, Bool, true, false, ◌&&◌, length, get_or, eqb, leb, Option, Some, None}
 use Rattle.entry.specs.declared.Entry.{Entry}
 use Rattle.entry.specs.Fields.{count_of}
 use Rattle.limits.specs.Limits.{is_within, entry_ok}
 use Rattle.table.specs.Records.{entries, counts_of}
-use Rattle.opening.specs.Lent.{PlaceList, Unlisted, Listed}
 
 unfoldable pub rising_from : ℕ → List Entry → Bool
 rising_from least [] = true
@@ -48,6 +47,6 @@ sums_ok [] (e ∷ es) place = false
 sums_ok (p ∷ ps) [] place = false
 sums_ok (p ∷ ps) (e ∷ es) place = eqb p place && sums_ok ps es (place + count_of e)
 
-abbrev pub list_ok : PlaceList → List ℕ → Bool
-list_ok Unlisted t = true
-list_ok (Listed ps) t = sums_ok ps (entries t) 0
+abbrev pub list_ok : Option (List ℕ) → List ℕ → Bool
+list_ok None t = true
+list_ok (Some ps) t = sums_ok ps (entries t) 0

@@ -3,12 +3,12 @@
 // over the table alone 22 from 21.
 #![tactic(auto)]
 
-ghost use Rattle.std.specs.Prelude.{◌≡◌, true, ◌&&◌, cond, ◌+◌, ◌*◌, ◌/◌, ◌≤◌, eqb, leb, length};
-ghost use Rattle.words.specs.Words.{double_at};
+ghost use Rattle.std.specs.Prelude.{◌≡◌, ◌&&◌, ◌+◌, ◌*◌, ◌/◌, ◌≤◌, eqb, leb, length};
+ghost use Rattle.std.specs.Bool.{then_some};
 ghost use Rattle.entry.specs.Fields.{entry_of, count_of};
 ghost use Rattle.limits.specs.Limits.{limits_ok, is_within};
 ghost use Rattle.table.specs.Records.{entries};
-ghost use Rattle.opening.specs.Lent.{lent_list};
+ghost use Rattle.opening.specs.Lent.{lent_list, lent_with};
 ghost use Rattle.opening.specs.Rules.{run_ok, table_ok, values_ok, sums_ok};
 ghost use Rattle.opening.specs.Answers.{content_of, opening_of};
 
@@ -16,33 +16,13 @@ use entry::{Entry, count_places, entry_of};
 use limits::{entry_ok, within};
 use setup::{Setup, setup_ok};
 use slave_answers::OpeningFault;
-use table::{Record, record_of};
-
-#[derive(Clone, Copy)]
-pub enum Opening {
-    Passed,
-    Closed(OpeningFault),
-}
+use table::{Record, entry_in, record_of};
 
 // ---- a record
 
-// Record k of a table that has it.
-fn record_at(t: &[u8], k: usize) -> Record
-    requires { 12 * k + 12 ≤ length t.now }
-    ensures { (result.head ≡ double_at t.now (12 * k)) × (result.minimum ≡ double_at t.now (12 * k + 4)) × (result.maximum ≡ double_at t.now (12 * k + 8)) }
-{
-    record_of(&t[12 * k..12 * k + 12])
-}
-
-// Both of two tests.
-fn hold_both(a: bool, b: bool) -> bool
-    ensures { result ≡ (a && b) }
-{
-    if a { b } else { false }
-}
-
 // Whether a record's limits are in order and a value is within them. A value between limits that fit shows these in order; without
 // sign, where the maximum fits, a value between the limits shows that it and the minimum fit.
+#[tactic(auto, using(limits::proofs::FitLaws::between_shown, limits::proofs::FitLaws::limits_shown, limits::proofs::FitLaws::fits_double, limits::proofs::FitLaws::fits_word, limits::proofs::FitLaws::word_unfit))]
 fn holds(e: Entry, v: u32) -> bool
     ensures { result ≡ (limits_ok e && is_within e v) }
 {
@@ -53,7 +33,7 @@ fn holds(e: Entry, v: u32) -> bool
         return false;
     }
     if !e.signed {
-        return hold_both(e.minimum <= v, v <= e.maximum);
+        return e.minimum <= v && v <= e.maximum;
     }
     if 65535 < e.minimum {
         return false;
@@ -62,18 +42,17 @@ fn holds(e: Entry, v: u32) -> bool
 }
 
 // The same of the value at a place, which must be there. Here and below the bound on a place only keeps sums from wrapping.
+#[tactic(auto, using(crate::proofs::RecordLaws::run_one))]
 fn value_holds(e: Entry, values: &[u32], place: usize) -> bool
     requires { place ≤ 1000000 }
     ensures { result ≡ (limits_ok e && leb (place + 1) (length values.now) && run_ok e values.now 1 place) }
 {
-    if values.len() <= place {
-        return false;
-    }
-    holds(e, values[place])
+    place < values.len() && holds(e, values[place])
 }
 
-// The same of n values from a place on, which must be there. The loop has no other way out, so that it can be compiled to look at
-// several values at once.
+// The same of n values from a place on, which must be there. n and the place stand beside all values, and no part of them is handed on,
+// here and in record_holds: `run_ok` counts in all values. The loop has no other way out, so that it can be compiled to look at several
+// values at once.
 fn run_holds(e: Entry, values: &[u32], n: usize, place: usize) -> bool
     requires { (place ≤ 1000000) × (1 ≤ n) × (n ≤ 1000000) }
     ensures { result ≡ (limits_ok e && leb (place + n) (length values.now) && run_ok e values.now n place) }
@@ -82,53 +61,30 @@ fn run_holds(e: Entry, values: &[u32], n: usize, place: usize) -> bool
         return false;
     }
     let mut all = true;
-    let mut i = 0;
-    while i < n {
-        all = hold_both(all, holds(e, values[place + i]));
-        i += 1;
+    for i in 0..n {
+        all &= holds(e, values[place + i]);
     }
     all
 }
 
-// What a record and its values come to: how many places it takes, and whether both are in order.
-#[derive(Clone, Copy)]
-struct Run {
-    places: usize,
-    fine: bool,
-}
-
-// The record's number is left to the pass. The head's lower fourteen bits are elements and spare bits: both 0 is one test.
-fn check_record(raw: Record, values: &[u32], place: usize) -> Run
+// How many places a record takes, where it and its values are in order. The record's number is left to the pass. The head's lower fourteen
+// bits are elements and spare bits: both 0 is one test.
+fn check_record(raw: Record, values: &[u32], place: usize) -> Option<usize>
     requires { place ≤ 1000000 }
-    ensures { let e = entry_of raw.head raw.minimum raw.maximum in (result.fine ≡ (leb e.elements 254 && eqb e.spare 0 && limits_ok e && leb (place + count_of e) (length values.now) && run_ok e values.now (count_of e) place)) × (result.fine ≡ true → result.places ≡ count_of e) }
+    ensures { let e = entry_of raw.head raw.minimum raw.maximum in result ≡ then_some (leb e.elements 254 && eqb e.spare 0 && limits_ok e && leb (place + count_of e) (length values.now) && run_ok e values.now (count_of e) place) (count_of e) }
 {
     let e = entry_of(raw.head, raw.minimum, raw.maximum);
     if raw.head % 16384 == 0 {
-        return Run {
-            places: 1,
-            fine: value_holds(e, values, place),
-        };
+        return value_holds(e, values, place).then_some(1);
     }
-    if e.spare != 0 {
-        return Run {
-            places: 0,
-            fine: false,
-        };
-    }
-    if 254 < e.elements {
-        return Run {
-            places: 0,
-            fine: false,
-        };
+    if e.spare != 0 || 254 < e.elements {
+        return None;
     }
     let n = e.elements as usize;
-    Run {
-        places: n,
-        fine: run_holds(e, values, n, place),
-    }
+    run_holds(e, values, n, place).then_some(n)
 }
 
-// What check_record finds in `fine`, of a record whose places are already counted; why it stands beside it is told at in_order_listed.
+// Whether check_record finds places, of a record whose places are already counted; why it stands beside it is told at in_order_listed.
 fn record_holds(raw: Record, values: &[u32], n: usize, place: usize) -> bool
     requires { (place ≤ 1000000) × (n ≡ count_of (entry_of raw.head raw.minimum raw.maximum)) }
     ensures { let e = entry_of raw.head raw.minimum raw.maximum in result ≡ (leb e.elements 254 && eqb e.spare 0 && limits_ok e && leb (place + count_of e) (length values.now) && run_ok e values.now (count_of e) place) }
@@ -137,13 +93,7 @@ fn record_holds(raw: Record, values: &[u32], n: usize, place: usize) -> bool
     if raw.head % 16384 == 0 {
         return value_holds(e, values, place);
     }
-    if e.spare != 0 {
-        return false;
-    }
-    if 254 < e.elements {
-        return false;
-    }
-    run_holds(e, values, n, place)
+    e.spare == 0 && e.elements <= 254 && run_holds(e, values, n, place)
 }
 
 // ---- the table, its values and its list
@@ -153,22 +103,18 @@ fn record_holds(raw: Record, values: &[u32], n: usize, place: usize) -> bool
 fn ends_well(head: u32, place: usize, count: usize) -> bool
     ensures { result ≡ (leb (head / 131072 + 1) 32000 && leb place 4096 && eqb place count) }
 {
-    if 32000 * 131072 <= head {
-        return false;
-    }
-    if 4096 < place {
-        return false;
-    }
-    place == count
+    head < 32000 * 131072 && place <= 4096 && place == count
 }
 
 // Whether the records of a table and their values are all in order. The number is the upper fifteen bits of a head, so heads are
-// compared: each must be over the greatest head with the number before it.
+// compared: each must be over the greatest head with the number before it. The next record is read at the end of a turn: where a `for`
+// reads it at the start, it is put together byte by byte, and the pass takes twice the instructions (tried).
+#[tactic(auto, using(crate::proofs::PassLaws::pass_none))]
 fn in_order(t: &[u8], values: &[u32]) -> bool
     ensures { result ≡ (table_ok t.now && values_ok t.now values.now) }
 {
     if t.len() < 12 {
-        return hold_both(0 == t.len(), 0 == values.len());
+        return t.is_empty() && values.is_empty();
     }
     if 512 * 12 < t.len() {
         return false;
@@ -178,12 +124,11 @@ fn in_order(t: &[u8], values: &[u32]) -> bool
     let mut at: usize = 0;
     let mut current = record_of(&t[0..12]);
     loop {
-        let run = check_record(current, values, place);
-        if !run.fine {
+        let Some(taken) = check_record(current, values, place) else {
             return false;
-        }
+        };
         let most = current.head / 131072 * 131072 + 131071;
-        place += run.places;
+        place += taken;
         at += 12;
         if last < at {
             break;
@@ -200,7 +145,7 @@ fn in_order(t: &[u8], values: &[u32]) -> bool
 }
 
 // The same pass with a list: each record's place is compared as it is reached. It has a function of its own for a record, since
-// check_record is compiled into the pass above only while that is its one caller.
+// check_record is compiled into the pass above only while that is its one caller. No `for`, for the reason told at in_order.
 fn in_order_listed(t: &[u8], values: &[u32], places: &[u16]) -> bool
     ensures { result ≡ (table_ok t.now && values_ok t.now values.now && sums_ok places.now (entries t.now) 0) }
 {
@@ -212,7 +157,7 @@ fn in_order_listed(t: &[u8], values: &[u32], places: &[u16]) -> bool
         return false;
     }
     if n == 0 {
-        return 0 == values.len();
+        return values.is_empty();
     }
     let mut place: usize = 0;
     let mut k: usize = 0;
@@ -221,12 +166,12 @@ fn in_order_listed(t: &[u8], values: &[u32], places: &[u16]) -> bool
         if places[k] as usize != place {
             return false;
         }
-        let taken = count_places(entry_of(current.head, current.minimum, current.maximum));
-        if !record_holds(current, values, taken, place) {
+        let count = count_places(entry_of(current.head, current.minimum, current.maximum));
+        if !record_holds(current, values, count, place) {
             return false;
         }
         let most = current.head / 131072 * 131072 + 131071;
-        place += taken;
+        place += count;
         k += 1;
         if n <= k {
             break;
@@ -239,17 +184,16 @@ fn in_order_listed(t: &[u8], values: &[u32], places: &[u16]) -> bool
     ends_well(current.head, place, values.len())
 }
 
-// Whether n records keep the table's rules.
+// Whether n records keep the table's rules. n is handed on, so that it is divided once.
+#[tactic(auto, using(table::proofs::RecordsLaws::entries_step, table::proofs::RecordsLaws::entries_end, table::proofs::RecordsLaws::entry_part, table::proofs::RecordsLaws::count_at_le, crate::proofs::PassLaws::rule_all, crate::proofs::PassLaws::rule_low, crate::proofs::PassLaws::rule_broken, crate::proofs::PassLaws::rule_on, crate::proofs::PassLaws::rule_end))]
 fn table_ok(t: &[u8], n: usize) -> bool
     requires { (length t.now ≡ 12 * n) × (n ≤ 512) }
     ensures { result ≡ table_ok t.now }
 {
     let mut least: u16 = 0;
     let mut place: usize = 0;
-    let mut k: usize = 0;
-    while k < n {
-        let next = record_at(t, k);
-        let e = entry_of(next.head, next.minimum, next.maximum);
+    for k in 0..n {
+        let e = entry_in(&t[12 * k..12 * k + 12]);
         if e.number < least {
             return false;
         }
@@ -258,7 +202,6 @@ fn table_ok(t: &[u8], n: usize) -> bool
         }
         least = e.number + 1;
         place += count_places(e);
-        k += 1;
     }
     place <= 4096
 }
@@ -268,60 +211,52 @@ fn is_table(t: &[u8]) -> bool
     ensures { result ≡ table_ok t.now }
 {
     let n = t.len() / 12;
-    if t.len() % 12 != 0 {
-        return false;
-    }
-    if 512 < n {
-        return false;
-    }
-    table_ok(t, n)
+    t.len() % 12 == 0 && n <= 512 && table_ok(t, n)
 }
 
 // The table, its values and, where one is lent, the list: 21, 22, 25.
-fn check_content(t: &[u8], values: &[u32], places: &[u16], listed: bool) -> Opening
-    ensures { result ≡ content_of t.now values.now (lent_list listed places.now) }
+#[tactic(auto, using(crate::proofs::ContentLaws::content_passed, crate::proofs::ContentLaws::content_places, crate::proofs::ContentLaws::content_values, crate::proofs::ContentLaws::content_table))]
+fn check_content(t: &[u8], values: &[u32], places: Option<&[u16]>) -> Result<(), OpeningFault>
+    ensures { result ≡ content_of t.now values.now (lent_list places.entry) }
 {
-    if listed {
-        if in_order_listed(t, values, places) {
-            return Opening::Passed;
-        }
+    if let Some(list) = places
+        && in_order_listed(t, values, list)
+    {
+        return Ok(());
     }
     if in_order(t, values) {
-        if listed {
-            return Opening::Closed(OpeningFault::BadPlaces);
-        }
-        return Opening::Passed;
+        return match places {
+            Some(_) => Err(OpeningFault::BadPlaces),
+            None => Ok(()),
+        };
     }
     if is_table(t) {
-        return Opening::Closed(OpeningFault::BadValues);
+        return Err(OpeningFault::BadValues);
     }
-    Opening::Closed(OpeningFault::BadTable)
+    Err(OpeningFault::BadTable)
 }
 
-// The opening check. `listed` says whether a list is lent; where none is, `places` is not looked at. `room` is the length of the reply
-// buffer.
-pub fn open(
-    setup: Setup,
-    table: &[u8],
-    values: &[u32],
-    places: &[u16],
-    listed: bool,
-    room: usize,
-) -> Opening
-    ensures { result ≡ opening_of (record { setup = setup; table = table.now; memory = record { values = values.entry.now }; list = lent_list listed places.now; room = room }) }
-{
-    if !setup_ok(setup) {
-        return Opening::Closed(OpeningFault::BadSetup);
-    }
-    let content = check_content(table, values, places, listed);
-    match content {
-        Opening::Closed(fault) => Opening::Closed(fault),
-        Opening::Passed => {
-            if room < 256 {
-                Opening::Closed(OpeningFault::ShortBuffer)
-            } else {
-                Opening::Passed
-            }
+// A drive as the host lends it to every call, and no call changes it: set-up, table, and the list of first places where there is one.
+#[derive(Clone, Copy)]
+pub struct Drive<'a> {
+    pub setup: Setup,
+    pub table: &'a [u8],
+    pub places: Option<&'a [u16]>,
+}
+
+impl Drive<'_> {
+    // The opening check. `room` is the length of the reply buffer.
+    #[tactic(auto, using(crate::proofs::AnswersLaws::open_setup, crate::proofs::AnswersLaws::open_content, crate::proofs::AnswersLaws::open_buffer, crate::proofs::AnswersLaws::open_passed))]
+    pub fn open(self, values: &[u32], room: usize) -> Result<(), OpeningFault>
+        ensures { result ≡ opening_of (lent_with self.entry values.now room) }
+    {
+        if !setup_ok(self.setup) {
+            return Err(OpeningFault::BadSetup);
         }
+        check_content(self.table, values, self.places)?;
+        if room < 256 {
+            return Err(OpeningFault::ShortBuffer);
+        }
+        Ok(())
     }
 }

@@ -8,26 +8,27 @@ use native.Mathlib.Decide.{ℕ_discrete}
 use borrow.Author.Tests.{eq-eqb, ne_eqb}
 use lib.ListN.{length, get_or, set}
 use lib.Seq.{get_or-set_same, get_or-set_other}
+use Rattle.std.specs.Prelude.{Err}
 use Rattle.slave_answers.specs.declared.OpeningFault.TheVariants.{BadTable, BadPlaces}
 use Rattle.entry.specs.Fields.{count_of}
 use Rattle.table.specs.Records.{entry_at, entries, first_place, places_of}
 use Rattle.table.proofs.RecordsLaws.{places_fit}
 use Rattle.table.proofs.PlacesLaws.{places_at}
-use Rattle.opening.specs.declared.Opening.TheVariants.{Passed, Closed}
 use Rattle.opening.specs.Rules.{table_ok}
 use Rattle.opening.proofs.ContentLaws.{ruled_places}
 use Rattle.places.specs.Fill.{filling_of}
+use Rattle.opening.specs.Answers.{passed}
 
 module _ (t : List ℕ) (n : ℕ) where
-  pub fill_table : table_ok t ≡ false → filling_of t n ≡ Closed BadTable
+  pub fill_table : table_ok t ≡ false → filling_of t n ≡ Err BadTable
   unfolding filling_of
   fill_table h = rw h
 
-  pub fill_length : table_ok t ≡ true → (n ≡ length t / 12 → ⊥) → filling_of t n ≡ Closed BadPlaces
+  pub fill_length : table_ok t ≡ true → (n ≡ length t / 12 → ⊥) → filling_of t n ≡ Err BadPlaces
   unfolding filling_of
   fill_length h o = rw (h, ne_eqb n (length t / 12) o)
 
-  pub fill_passed : table_ok t ≡ true → n ≡ length t / 12 → filling_of t n ≡ Passed
+  pub fill_passed : table_ok t ≡ true → n ≡ length t / 12 → filling_of t n ≡ passed
   unfolding filling_of
   fill_passed h o = rw (h, eq-eqb n (length t / 12) o)
 

@@ -1,17 +1,16 @@
 -- The document's numbers and values of a reading's answers (document 01, Answer numbers, "Reply reading").
 --     read_fault_number f        a refusal: 30, 31, 10 to 17, 33
---     read_number a              an answer, 0 where it is no refusal
+--     read_number r              a reading, 0 where it is no refusal
 --     content_id c               the reply ID of what a reply holds
 --     content_value c            its value or error number
---     read_id a, read_value a    the same of an answer, 0 in a refusal
-use Rattle.std.specs.Prelude.{ℕ}
+--     read_id r, read_value r    the same of a reading, 0 in a refusal
+use Rattle.std.specs.Prelude.{ℕ, Result, Ok, Err}
 use Rattle.address.specs.Address.{fault_number}
 use Rattle.read_answers.specs.declared.Content.{Content}
 use Rattle.read_answers.specs.declared.Content.TheVariants.{Empty, Value, Failed, NoRight}
 use Rattle.read_answers.specs.declared.ReadFault.{ReadFault}
 use Rattle.read_answers.specs.declared.ReadFault.TheVariants.{UnfitSetup, NotAsked, InTelegram, OtherNode, OtherLength, NotTheReply}
-use Rattle.read_answers.specs.declared.ReadAnswer.{ReadAnswer}
-use Rattle.read_answers.specs.declared.ReadAnswer.TheVariants.{Read, Unread}
+use Rattle.read_answers.specs.declared.Reading.{Reading}
 
 abbrev pub read_fault_number : ReadFault → ℕ
 read_fault_number UnfitSetup = 30
@@ -33,14 +32,14 @@ content_value (Value id value) = value
 content_value (Failed error) = error
 content_value NoRight = 0
 
-abbrev pub read_number : ReadAnswer → ℕ
-read_number (Read content) = 0
-read_number (Unread fault) = read_fault_number fault
+abbrev pub read_number : Result Reading ReadFault → ℕ
+read_number (Ok reading) = 0
+read_number (Err fault) = read_fault_number fault
 
-abbrev pub read_id : ReadAnswer → ℕ
-read_id (Read content) = content_id content
-read_id (Unread fault) = 0
+abbrev pub read_id : Result Reading ReadFault → ℕ
+read_id (Ok reading) = content_id reading.content
+read_id (Err fault) = 0
 
-abbrev pub read_value : ReadAnswer → ℕ
-read_value (Read content) = content_value content
-read_value (Unread fault) = 0
+abbrev pub read_value : Result Reading ReadFault → ℕ
+read_value (Ok reading) = content_value reading.content
+read_value (Err fault) = 0

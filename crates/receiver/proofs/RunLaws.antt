@@ -3,7 +3,10 @@
 use Prim.Native.Nat.{ℕ, zero, suc, ◌+◌, ◌-◌, ◌<◌, ◌≤◌}
 use mathlib.Core.Path.{◌≡◌, refl, sym, ap, subst, ◌∙◌}
 use mathlib.Core.Bool.{Bool, true, false, cond}
-use mathlib.Core.List.{List, [], ◌∷◌, ◌++◌, append_assoc, append-nil}
+use mathlib.Core.List.{List, [], ◌∷◌, ◌++◌, map, append_assoc, append-nil}
+use Rattle.std.specs.Ordering.{ord_min, nat_cmp}
+use Rattle.std.proofs.lemmas.Bool.Decides.{nat_tests}
+use Rattle.std.proofs.lemmas.List.{get_or-map}
 use native.Mathlib.Omega.{arith}
 use native.Mathlib.Nat.{add-zero}
 use native.Mathlib.Numerals.{add-one}
@@ -58,6 +61,18 @@ single s (x ∷ y ∷ xs) page t one is = absurd (omega arith)
 pub as_step : (s x : ℕ) (page : List ℕ) (r : Move) (page' : List ℕ) → r ≡ (step_of s x page).move → page' ≡ (step_of s x page).page
     → step_of s x page ≡ record { move = r; page = page' }
 as_step s x page r page' e f = rw (e, f)
+
+-- the same for the item x at place i of items that have numbers
+pub as_item : {A : Type 0} (f : A → ℕ) (xs : List A) (i s : ℕ) (page : List ℕ) (x : A) {n : ℕ} (r : Move) (page' : List ℕ) → i < length xs
+    → x ≡ get_or xs i x → n ≡ f x → r ≡ (step_of s n page).move → page' ≡ (step_of s n page).page
+    → step_of s (get_or (map f xs) i 0) page ≡ record { move = r; page = page' }
+as_item f xs i s page x r page' here at is e g =
+    let q = is ∙ sym (get_or-map f xs i x 0 here ∙ ap f (sym at)) in
+    as_step s _ page r page' (rw q at e) (rw q at g)
+
+-- the smaller of two counts
+pub within : (a b : ℕ) {n : ℕ} → n ≡ ord_min nat_cmp a b → (n ≤ a) × (n ≤ b)
+within a b e = grind (arith, nat_tests)
 
 -- result and page of a call, by what the whole call is
 pub leaves : {a b : Reception} → a ≡ b → Leaves a b.received b.page

@@ -3,7 +3,6 @@
 
 ghost use Rattle.std.specs.Prelude.{◌≡◌, not, ◌&&◌};
 ghost use Rattle.request.specs.Request.{unused_zero, value_fits, task_fits, task_askable, command_of, expressible};
-ghost use Rattle.task.specs.declared.Act.TheVariants.{Change};
 ghost use Rattle.broadcast.specs.Broadcast.{is_void};
 
 use broadcast::Command;
@@ -12,7 +11,7 @@ use task::{Act, Width};
 use words::Words;
 
 // What a master asks. The net bytes of a mirror stand beside it.
-#[derive(Clone, Copy)]
+#[derive(Clone, Copy, Debug, PartialEq, Eq)]
 pub enum Request {
     Task {
         id: u8,
@@ -30,45 +29,15 @@ pub enum Request {
     },
 }
 
-// Whether the words past the first pzd are 0, from the last one back.
+// Whether the words past the first pzd are 0.
 #[tactic(auto, unfolding(crate::specs::Request::unused_zero))]
 fn leaves_zero(pzd: u8, w: Words) -> bool
     ensures { result ≡ unused_zero pzd w }
 {
-    if 3 < pzd {
-        return true;
-    }
-    if w.w4 != 0 {
-        return false;
-    }
-    if 2 < pzd {
-        return true;
-    }
-    if w.w3 != 0 {
-        return false;
-    }
-    if 1 < pzd {
-        return true;
-    }
-    if w.w2 != 0 {
-        return false;
-    }
-    if 0 < pzd {
-        return true;
-    }
-    w.w1 == 0
-}
-
-// Whether a change of this width can carry the value in an area of pkw words.
-#[tactic(auto, unfolding(crate::specs::Request::value_fits))]
-fn fits_change(width: Width, pkw: u8, value: u32) -> bool
-    ensures { result ≡ value_fits Change width pkw value }
-{
-    match width {
-        Width::Either => false,
-        Width::Word => value <= 65535,
-        Width::Double => pkw != 3,
-    }
+    (0 < pzd || w.w1 == 0)
+        && (1 < pzd || w.w2 == 0)
+        && (2 < pzd || w.w3 == 0)
+        && (3 < pzd || w.w4 == 0)
 }
 
 // Whether an act of this width can carry the value in an area of pkw words.
@@ -76,52 +45,31 @@ fn fits_change(width: Width, pkw: u8, value: u32) -> bool
 fn fits_value(act: Act, width: Width, pkw: u8, value: u32) -> bool
     ensures { result ≡ value_fits act width pkw value }
 {
-    match act {
-        Act::Nothing => false,
-        Act::Read => value == 0,
-        Act::Change => fits_change(width, pkw, value),
-        Act::Count => value == 0,
-        Act::Refuse => false,
+    match (act, width) {
+        (Act::Read | Act::Count, _) => value == 0,
+        (Act::Change, Width::Word) => value <= 65535,
+        (Act::Change, Width::Double) => pkw != 3,
+        _ => false,
     }
 }
 
 // Whether a task can be asked in an area of pkw words.
-#[tactic(auto, unfolding(crate::specs::Request::task_fits))]
+#[tactic(auto, using(crate::proofs::RequestLaws::known_fits), unfolding(crate::specs::Request::task_fits))]
 fn fits_task(pkw: u8, id: u8, number: u16, index: u8, value: u32) -> bool
     ensures { result ≡ task_fits pkw id number index value }
 {
     if id == 0 {
-        if number != 0 {
-            return false;
-        }
-        if index != 0 {
-            return false;
-        }
-        return value == 0;
-    }
-    if pkw == 0 {
-        return false;
-    }
-    if 31999 < number {
-        return false;
-    }
-    if 254 < index {
-        return false;
+        return number == 0 && index == 0 && value == 0;
     }
     let task = task::task_of(id);
-    let act = task.act;
-    let width = task.width;
-    fits_value(act, width, pkw, value)
+    pkw != 0 && number <= 31999 && index <= 254 && fits_value(task.act, task.width, pkw, value)
 }
 
 // Whether a task request can be asked.
 pub fn can_ask(setup: Setup, id: u8, number: u16, index: u8, value: u32, process: Words) -> bool
     ensures { result ≡ task_askable setup id number index value process }
 {
-    if !fits_task(setup.pkw, id, number, index, value) {
-        return false;
-    }
-    leaves_zero(setup.pzd, process)
+    fits_task(setup.pkw, id, number, index, value) && leaves_zero(setup.pzd, process)
 }
 
 // Whether a broadcast can be asked.
@@ -134,10 +82,8 @@ fn can_command(setup: Setup, selector: u16, mask1: u16, mask2: u16, process: Wor
         mask2,
         fourth: 0,
     };
-    if broadcast::is_void(command, setup.pkw, setup.pzd, process.w1) {
-        return false;
-    }
-    leaves_zero(setup.pzd, process)
+    !broadcast::is_void(command, setup.pkw, setup.pzd, process.w1)
+        && leaves_zero(setup.pzd, process)
 }
 
 // Whether a request can be asked; net are the net bytes of a mirror.
@@ -153,13 +99,7 @@ pub fn can_express(setup: Setup, request: Request, net: &[u8]) -> bool
             value,
             process,
         } => can_ask(setup, id, number, index, value, process),
-        Request::Mirror => {
-            let n = net.len();
-            if n < 1 {
-                return false;
-            }
-            n <= 252
-        }
+        Request::Mirror => matches!(net.len(), 1..=252),
         Request::Broadcast {
             selector,
             mask1,

@@ -3,7 +3,7 @@
 
 ghost use Rattle.std.specs.Prelude.{◌≤◌};
 
-use master::Built;
+use build_answers::BuildFault;
 use setup::Setup;
 use words::Words;
 
@@ -40,40 +40,29 @@ const USUAL: Words = Words {
     w4: 0,
 };
 
-// ---- lines
-
-fn put(b: u8) {
-    let text = [b; 1];
-    io::write_all(1, &text);
-}
+// ---- lines. Each format is this program's alone, and io::write_all takes bytes and no
+// fmt::Write: so no Display.
 
 fn put_number(n: u64) {
     io::print_decimal(1, n);
-    put(32);
+    io::write_all(1, b" ");
 }
 
-fn put_byte(b: u8) {
-    io::print_hex(1, b as u64, 2);
-}
-
-// The first n bytes, in hexadecimal.
-fn put_bytes(t: &[u8], n: usize) {
-    for i in 0..t.len() {
-        if i < n {
-            put_byte(t[i]);
-        }
+// 0 and the length of a telegram that is built, or the refusal's number and 0.
+fn show(built: Result<usize, BuildFault>, out: &[u8]) {
+    let (number, length): (u32, usize) = match built {
+        Ok(length) => (0, length),
+        Err(fault) => (fault.into(), 0),
+    };
+    put_number(number as u64);
+    put_number(length as u64);
+    for &byte in out.iter().take(length) {
+        io::print_hex(1, byte as u64, 2);
     }
+    io::write_all(1, b"\n");
 }
 
-fn show(built: Built, out: &[u8]) {
-    let answer = built.answer;
-    put_number(build_answers::number_built(answer) as u64);
-    put_number(built.length as u64);
-    put_bytes(out, built.length);
-    put(10);
-}
-
-// ---- requests
+// ---- requests. Their parts stay parameters: a case below is one line of numbers.
 
 fn ask_into(
     setup: Setup,
@@ -85,7 +74,7 @@ fn ask_into(
     out: &mut [u8],
 ) {
     let built = master::build_task(setup, id, number, index, value, process, out);
-    show(built, &out[..]);
+    show(built, out);
 }
 
 // A task in a buffer of so many bytes.
@@ -93,7 +82,7 @@ fn ask(setup: Setup, id: u8, number: u16, index: u8, value: u32, process: Words,
     requires { room ≤ 256 }
 {
     let mut out = [0u8; 256];
-    ask_into(setup, id, number, index, value, process, &mut out[0..room]);
+    ask_into(setup, id, number, index, value, process, &mut out[..room]);
 }
 
 // A task in four words, and in three.
@@ -107,7 +96,7 @@ fn ask_three(id: u8, number: u16, index: u8, value: u32) {
 
 fn mirror_into(setup: Setup, net: &[u8], out: &mut [u8]) {
     let built = master::build_mirror(setup, net, out);
-    show(built, &out[..]);
+    show(built, out);
 }
 
 // A mirror of n net bytes, 02 the second, in a buffer of so many bytes.
@@ -117,7 +106,7 @@ fn mirror(setup: Setup, first: u8, n: usize, room: usize)
 {
     let net = [first, 2];
     let mut out = [0u8; 256];
-    mirror_into(setup, &net[0..n], &mut out[0..room]);
+    mirror_into(setup, &net[..n], &mut out[..room]);
 }
 
 fn command(setup: Setup, selector: u16, mask1: u16, mask2: u16, process: Words) {

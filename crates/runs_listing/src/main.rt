@@ -3,44 +3,12 @@
 // written as it is, and a telegram's listing below it.
 #![tactic(auto)]
 
-ghost use Rattle.std.specs.Prelude.{◌≤◌, length};
+ghost use Rattle.std.specs.Prelude.{◌≤◌};
+
+use hex_lines::Lines;
 
 // The example of document 01.
 const K1: [u8; 9] = *b"\x02\x07\x00\x04\x00\x21\x00\x1c\x3c";
-
-// The value of a hexadecimal digit.
-fn digit(b: u8) -> u8 {
-    if b < 58 { b % 16 } else { (b % 16 + 9) % 16 }
-}
-
-fn byte_of(high: u8, low: u8) -> u8 {
-    digit(high) % 16 * 16 + digit(low) % 16
-}
-
-// The bytes of a line, each two digits and a space, up to #: how many they are.
-fn read_bytes(line: &[u8], out: &mut [u8]) -> usize
-    ensures { result ≤ length out.new }
-{
-    let mut i = 0;
-    let mut n = 0;
-    while i + 1 < line.len() {
-        if line[i] == 35 {
-            return n;
-        }
-        if out.len() <= n {
-            return n;
-        }
-        out[n] = byte_of(line[i], line[i + 1]);
-        i += 3;
-        n += 1;
-    }
-    n
-}
-
-fn put(b: u8) {
-    let text = [b; 1];
-    io::write_all(1, &text);
-}
 
 fn run(received: &[u8]) {
     let mut out = [0u8; 64];
@@ -50,23 +18,11 @@ fn run(received: &[u8]) {
 
 fn run_line(line: &[u8]) {
     io::write_all(1, line);
-    put(10);
+    io::write_all(1, b"\n");
     let mut bytes = [0u8; 64];
-    let n = read_bytes(line, &mut bytes);
+    let n = hex_lines::read_bytes(line, &mut bytes);
     if 0 < n {
-        run(&bytes[0..n]);
-    }
-}
-
-fn run_lines(text: &[u8]) {
-    let mut at = 0;
-    for i in 0..text.len() {
-        if text[i] == 10 {
-            if at <= i {
-                run_line(&text[at..i]);
-            }
-            at = i + 1;
-        }
+        run(&bytes[..n]);
     }
 }
 
@@ -78,7 +34,7 @@ fn list_long(lge: u8, n: usize)
     t[0] = 2;
     t[1] = lge;
     t[255] = 252;
-    run(&t[0..n]);
+    run(&t[..n]);
 }
 
 fn list_all_long() {
@@ -102,23 +58,25 @@ fn list_all_long() {
 fn show(out: &mut [u8]) {
     let length = listing::list(&K1, out);
     io::print_decimal(1, length as u64);
-    put(10);
-    io::write_all(1, &out[..]);
-    put(10);
+    io::write_all(1, b"\n");
+    io::write_all(1, out);
+    io::write_all(1, b"\n");
 }
 
 // The example into a buffer of so many bytes.
 fn list_into(room: usize)
     requires { room ≤ 60 }
 {
-    let mut out = [46u8; 60];
-    show(&mut out[0..room]);
+    let mut out = [b'.'; 60];
+    show(&mut out[..room]);
 }
 
 fn main() {
     let mut text = io::large_buffer();
     let n = io::read_full(0, &mut text);
-    run_lines(&text[..n]);
+    for line in Lines(&text[..n]) {
+        run_line(line);
+    }
     list_all_long();
     // too short, just long enough, and longer
     list_into(53);

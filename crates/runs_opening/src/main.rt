@@ -3,8 +3,11 @@
 // Kinds of a parameter: 0 word, 2 signed word, 4 double, 6 signed double; 1 more where it is writable.
 #![tactic(auto)]
 
-use opening::{Opening, open};
+ghost use Rattle.std.specs.Prelude.{◌≤◌};
+
+use opening::Drive;
 use setup::Setup;
+use slave_answers::OpeningFault;
 
 const USUAL: Setup = Setup {
     node: 3,
@@ -12,16 +15,14 @@ const USUAL: Setup = Setup {
     pzd: 2,
 };
 
-fn answer_number(answer: Opening) -> u32 {
-    match answer {
-        Opening::Passed => 0,
-        Opening::Closed(fault) => slave_answers::number_opening(fault),
-    }
-}
-
-fn show(answer: Opening) {
+// The number of a check or of a filling: 0 where it refuses nothing.
+fn show(answer: Result<(), OpeningFault>) {
+    let number: u32 = match answer {
+        Ok(()) => 0,
+        Err(fault) => fault.into(),
+    };
     io::write_all(1, b" ");
-    io::print_decimal(1, answer_number(answer) as u64);
+    io::print_decimal(1, number as u64);
 }
 
 // ---- tables
@@ -34,13 +35,7 @@ fn head(number: u16, kind: u16, elements: u16) -> u32 {
 }
 
 fn put_double(t: &mut [u8], at: usize, x: u32) {
-    let bytes = [
-        (x / 16777216) as u8,
-        (x / 65536 % 256) as u8,
-        (x / 256 % 256) as u8,
-        (x % 256) as u8,
-    ];
-    store::put(t, at, &bytes);
+    store::put(t, at, &x.to_be_bytes());
 }
 
 fn put_record(t: &mut [u8], k: u16, first: u32, minimum: u32, maximum: u32) {
@@ -66,80 +61,80 @@ fn put_records(t: &mut [u8], n: u16, elements: u16, last: u16) {
 
 // ---- cases
 
-// The first bytes of a table, the first of the values.
-fn check(setup: Setup, t: &[u8], length: usize, values: &[u32], count: usize, room: usize) {
-    if t.len() < length {
-        return;
-    }
-    if values.len() < count {
-        return;
-    }
-    let none: [u16; 0] = [];
-    let answer = open(setup, &t[0..length], &values[0..count], &none, false, room);
-    show(answer);
+// A table and its values, with no list; a buffer of `room` bytes.
+fn check(setup: Setup, t: &[u8], values: &[u32], room: usize) {
+    let drive = Drive {
+        setup,
+        table: t,
+        places: None,
+    };
+    show(drive.open(values, room));
 }
 
 // One set-up, no record, no value.
 fn configure(node: u8, pkw: u8, pzd: u8) {
-    let values = [0u32; 1];
-    check(Setup { node, pkw, pzd }, b"", 0, &values, 0, 256);
+    check(Setup { node, pkw, pzd }, &[], &[], 256);
 }
 
 // One record of a kind, with its limits and its value.
 fn limit(kind: u16, minimum: u32, maximum: u32, value: u32) {
     let mut t = [0u8; 12];
     put_record(&mut t, 0, head(1082, kind, 0), minimum, maximum);
-    let values = [value; 1];
-    check(USUAL, &t, 12, &values, 1, 256);
+    check(USUAL, &t, &[value], 256);
 }
 
 // Two records, each 0 to 10, and two values, 0 the second; a buffer of `room` bytes.
 fn pair(first: u32, second: u32, value: u32, room: usize) {
     let mut t = [0u8; 24];
     put_pair(&mut t, first, second);
-    let mut values = [0u32; 2];
-    values[0] = value;
-    check(USUAL, &t, 24, &values, 2, room);
+    check(USUAL, &t, &[value, 0], room);
 }
 
-// So many bytes of a table with records 0 to n, and so many values.
-fn count(n: u16, elements: u16, last: u16, length: usize, count: usize) {
+// So many bytes of a table with records 0 to n, and so many values. The bounds here and below are the sizes of
+// the function's own buffers.
+fn count(n: u16, elements: u16, last: u16, length: usize, count: usize)
+    requires length_bound { length ≤ 6156 }
+    requires count_bound { count ≤ 4098 }
+{
     let mut t = [0u8; 6156];
     let values = [0u32; 4098];
     put_records(&mut t, n, elements, last);
-    check(USUAL, &t, length, &values, count, 256);
+    check(USUAL, &t[..length], &values[..count], 256);
 }
 
 // ---- lists and views
 
-// Three records of 2, 1 and 3 places, the last value given, and the first `count` entries of a list; a buffer of `room` bytes.
-fn list(entries: [u16; 4], count: usize, value: u32, room: usize) {
-    if 4 < count {
-        return;
+// A drive of the usual set-up with a list.
+fn lending<'a>(table: &'a [u8], list: &'a [u16]) -> Drive<'a> {
+    Drive {
+        setup: USUAL,
+        table,
+        places: Some(list),
     }
+}
+
+// Three records of 2, 1 and 3 places, the last value given, and a list; a buffer of `room` bytes.
+fn list(entries: &[u16], value: u32, room: usize) {
     let mut t = [0u8; 36];
     put_record(&mut t, 0, head(1, 1, 2), 0, 10);
     put_record(&mut t, 1, head(2, 1, 0), 0, 10);
     put_record(&mut t, 2, head(3, 1, 3), 0, 10);
-    let mut values = [0u32; 6];
-    values[5] = value;
-    let answer = open(USUAL, &t, &values, &entries[0..count], true, room);
-    show(answer);
+    let values = [0, 0, 0, 0, 0, value];
+    show(lending(&t, entries).open(&values, room));
 }
 
 // A list lent.
 fn lend(t: &[u8], values: &[u32], list: &[u16]) {
-    show(open(USUAL, t, values, list, true, 256));
+    show(lending(t, list).open(values, 256));
 }
 
 // A list filled from a table, then lent; then again with one entry one over: the filling's number, and the opening check's.
 fn fill_list(t: &[u8], values: &[u32], list: &mut [u16], wrong: usize) {
-    io::write_all(1, b" ");
-    io::print_decimal(1, places::fill(t, list) as u64);
-    lend(t, values, &list[..]);
+    show(places::fill(t, list));
+    lend(t, values, list);
     if wrong < list.len() {
         list[wrong] = list[wrong] % 65535 + 1;
-        lend(t, values, &list[..]);
+        lend(t, values, list);
     }
 }
 
@@ -152,24 +147,19 @@ fn fill(
     value_count: usize,
     entry_count: usize,
     wrong: usize,
-) {
+)
+    requires length_bound { length ≤ 6156 }
+    requires value_bound { value_count ≤ 4098 }
+    requires entry_bound { entry_count ≤ 513 }
+{
     let mut t = [0u8; 6156];
     let values = [0u32; 4098];
     let mut list = [0xffffu16; 513];
     put_records(&mut t, n, elements, last);
-    if 6156 < length {
-        return;
-    }
-    if 4098 < value_count {
-        return;
-    }
-    if 513 < entry_count {
-        return;
-    }
     fill_list(
-        &t[0..length],
-        &values[0..value_count],
-        &mut list[0..entry_count],
+        &t[..length],
+        &values[..value_count],
+        &mut list[..entry_count],
         wrong,
     );
 }
@@ -201,13 +191,12 @@ fn walk(table: &[u8]) {
 }
 
 // The first bytes of a table with records 0 to n.
-fn look(n: u16, length: usize) {
+fn look(n: u16, length: usize)
+    requires { length ≤ 6156 }
+{
     let mut t = [0u8; 6156];
     put_records(&mut t, n, 0, 0);
-    if 6156 < length {
-        return;
-    }
-    walk(&t[0..length]);
+    walk(&t[..length]);
 }
 
 fn main() {
@@ -323,16 +312,16 @@ fn run_counts() {
 // with a wrong one; a wrong list with a bad value.
 fn run_lists() {
     io::write_all(1, b"\nlists:");
-    list([0, 2, 3, 6], 3, 10, 256);
-    list([1, 2, 3, 6], 3, 10, 256);
-    list([0, 3, 3, 6], 3, 10, 256);
-    list([0, 2, 4, 6], 3, 10, 256);
-    list([0, 2, 3, 6], 2, 10, 256);
-    list([0, 2, 3, 6], 4, 10, 256);
-    list([0, 2, 3, 6], 0, 10, 256);
-    list([0, 2, 3, 6], 3, 10, 255);
-    list([0, 2, 3, 5], 4, 10, 255);
-    list([1, 2, 3, 6], 3, 11, 255);
+    list(&[0, 2, 3], 10, 256);
+    list(&[1, 2, 3], 10, 256);
+    list(&[0, 3, 3], 10, 256);
+    list(&[0, 2, 4], 10, 256);
+    list(&[0, 2], 10, 256);
+    list(&[0, 2, 3, 6], 10, 256);
+    list(&[], 10, 256);
+    list(&[0, 2, 3], 10, 255);
+    list(&[0, 2, 3, 5], 10, 255);
+    list(&[1, 2, 3], 11, 255);
 }
 
 // No record; one; 512, with an entry of the middle and the last one made wrong; 4096 places; a list one short and one long; a table of 4097

@@ -3,10 +3,9 @@
 // and to a broadcast: the number and the process words.
 #![tactic(auto)]
 
-ghost use Rattle.std.specs.Prelude.{◌≤◌, length};
-
+use hex_lines::Lines;
 use host_reply::HostReply;
-use read_answers::ReadAnswer;
+use read_answers::{ReadFault, Reading};
 use request::Request;
 use setup::Setup;
 use words::Words;
@@ -22,70 +21,22 @@ const USUAL: Words = Words {
     w4: 0,
 };
 
-// ---- lines that are read
-
-// The value of a hexadecimal digit.
-fn digit(b: u8) -> u8 {
-    if b < 58 { b % 16 } else { (b % 16 + 9) % 16 }
-}
-
-fn byte_of(high: u8, low: u8) -> u8 {
-    digit(high) % 16 * 16 + digit(low) % 16
-}
-
-// The bytes of a line, each two digits and a space, up to #: how many they are.
-fn read_bytes(line: &[u8], out: &mut [u8]) -> usize
-    ensures { result ≤ length out.new }
-{
-    let mut i = 0;
-    let mut n = 0;
-    while i + 1 < line.len() {
-        if line[i] == 35 {
-            return n;
-        }
-        if out.len() <= n {
-            return n;
-        }
-        out[n] = byte_of(line[i], line[i + 1]);
-        i += 3;
-        n += 1;
-    }
-    n
-}
-
-// The double word at a place.
-fn double_at(bytes: &[u8], at: usize) -> u32 {
-    if bytes.len() < 4 {
-        return 0;
-    }
-    if bytes.len() - 4 < at {
-        return 0;
-    }
-    let high = words::join(bytes[at], bytes[at + 1]);
-    words::join_double(high, words::join(bytes[at + 2], bytes[at + 3]))
-}
-
-// ---- lines that are written
-
-fn put(b: u8) {
-    let text = [b; 1];
-    io::write_all(1, &text);
-}
+// ---- lines that are written. Each format is this program's alone, and io::write_all takes bytes and no
+// fmt::Write: so no Display.
 
 fn put_number(n: u32) {
-    put(32);
+    io::write_all(1, b" ");
     io::print_decimal(1, n as u64);
 }
 
 fn put_words(words: Words) {
-    put_number(words.w1 as u32);
-    put_number(words.w2 as u32);
-    put_number(words.w3 as u32);
-    put_number(words.w4 as u32);
+    for word in [words.w1, words.w2, words.w3, words.w4] {
+        put_number(word as u32);
+    }
 }
 
 fn put_reply(reply: HostReply) {
-    put(10);
+    io::write_all(1, b"\n");
     put_number(reply.number);
     put_number(reply.id);
     put_number(reply.value);
@@ -94,26 +45,39 @@ fn put_reply(reply: HostReply) {
 
 // ---- readings
 
-// The reading of a line's bytes.
+// The reading of a line's bytes: the set-up, the task, its parameter, a byte 00, its index, its value, and the reply.
 fn run(bytes: &[u8]) {
-    if bytes.len() < 12 {
+    let [
+        node,
+        pkw,
+        pzd,
+        task,
+        p1,
+        p2,
+        _,
+        index,
+        v1,
+        v2,
+        v3,
+        v4,
+        received @ ..,
+    ] = bytes
+    else {
         return;
-    }
-    let parameter = double_at(bytes, 4);
-    let value = double_at(bytes, 8);
+    };
     let setup = Setup {
-        node: bytes[0],
-        pkw: bytes[1],
-        pzd: bytes[2],
+        node: *node,
+        pkw: *pkw,
+        pzd: *pzd,
     };
     let reply = host_reply::read_reply(
         setup,
-        bytes[3],
-        (parameter / 65536) as u16,
-        (parameter % 256) as u8,
-        value,
+        *task,
+        u16::from_be_bytes([*p1, *p2]),
+        *index,
+        u32::from_be_bytes([*v1, *v2, *v3, *v4]),
         USUAL,
-        &bytes[12..],
+        received,
     );
     put_reply(reply);
 }
@@ -121,28 +85,20 @@ fn run(bytes: &[u8]) {
 fn run_line(line: &[u8]) {
     io::write_all(1, line);
     let mut bytes = [0u8; 64];
-    let n = read_bytes(line, &mut bytes);
-    run(&bytes[0..n]);
-    put(10);
+    let n = hex_lines::read_bytes(line, &mut bytes);
+    run(&bytes[..n]);
+    io::write_all(1, b"\n");
 }
 
-fn run_lines(text: &[u8]) {
-    let mut at = 0;
-    for i in 0..text.len() {
-        if text[i] == 10 {
-            if at <= i {
-                run_line(&text[at..i]);
-            }
-            at = i + 1;
-        }
-    }
-}
-
-fn number_of(answer: ReadAnswer) -> u32 {
-    match answer {
-        ReadAnswer::Read(_) => 0,
-        ReadAnswer::Unread(fault) => read_answers::number_read_fault(fault),
-    }
+// 0 and the process words of what is read, or the refusal's number and words 0.
+fn show(read: Result<Reading, ReadFault>) {
+    let (number, process): (u32, Words) = match read {
+        Ok(reading) => (0, reading.process),
+        Err(fault) => (fault.into(), Words::default()),
+    };
+    put_number(number);
+    put_words(process);
+    io::write_all(1, b"\n");
 }
 
 // K3 as the reply to what is no task.
@@ -152,17 +108,15 @@ fn read_other(request: Request) {
         pkw: 4,
         pzd: 2,
     };
-    let reading = reply::read(setup, request, &K3);
-    let answer = reading.answer;
-    put_number(number_of(answer));
-    put_words(reading.process);
-    put(10);
+    show(reply::read(setup, request, &K3));
 }
 
 fn main() {
     let mut text = io::large_buffer();
     let n = io::read_full(0, &mut text);
-    run_lines(&text[..n]);
+    for line in Lines(&text[..n]) {
+        run_line(line);
+    }
     read_other(Request::Mirror);
     read_other(Request::Broadcast {
         selector: 2,

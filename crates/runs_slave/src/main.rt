@@ -2,8 +2,9 @@
 // one with a telegram what the call gave: document 01's answer number, the reply's length and bytes, the control words and the values.
 #![tactic(auto)]
 
-ghost use Rattle.std.specs.Prelude.{◌≤◌, length};
+ghost use Rattle.std.specs.Prelude.{◌≤◌};
 
+use hex_lines::Lines;
 use host_slave::HostAnswer;
 use setup::Setup;
 use words::Words;
@@ -51,85 +52,37 @@ const FIRST: Left = Left {
     control: CONTROL,
 };
 
-// ---- lines that are read
-
-// The value of a hexadecimal digit.
-fn digit(b: u8) -> u8 {
-    if b < 58 { b % 16 } else { (b % 16 + 9) % 16 }
-}
-
-fn byte_of(high: u8, low: u8) -> u8 {
-    digit(high) % 16 * 16 + digit(low) % 16
-}
-
-// The bytes of a line, each two digits and a space, up to #: how many they are.
-fn read_bytes(line: &[u8], out: &mut [u8]) -> usize
-    ensures { result ≤ length out.new }
-{
-    let mut i = 0;
-    let mut n = 0;
-    while i + 1 < line.len() {
-        if line[i] == 35 {
-            return n;
-        }
-        if out.len() <= n {
-            return n;
-        }
-        out[n] = byte_of(line[i], line[i + 1]);
-        i += 3;
-        n += 1;
-    }
-    n
-}
-
-// ---- lines that are written
-
-fn put(b: u8) {
-    let text = [b; 1];
-    io::write_all(1, &text);
-}
+// ---- lines that are written. Each format is this program's alone, and io::write_all takes bytes and no
+// fmt::Write: so no Display.
 
 // A space, and a number of so many digits.
 fn put_hex(n: u32, digits: usize) {
-    put(32);
+    io::write_all(1, b" ");
     io::print_hex(1, n as u64, digits);
 }
 
-fn put_byte(b: u8) {
-    put_hex(b as u32, 2);
-}
-
-// The first n bytes.
-fn put_bytes(bytes: &[u8], n: u32) {
-    for i in 0..bytes.len() {
-        if i < n as usize {
-            put_byte(bytes[i]);
-        }
+fn put_words(words: Words) {
+    io::write_all(1, b",");
+    for word in [words.w1, words.w2, words.w3, words.w4] {
+        put_hex(word as u32, 4);
     }
 }
 
-fn put_words(words: Words) {
-    put(44);
-    put_hex(words.w1 as u32, 4);
-    put_hex(words.w2 as u32, 4);
-    put_hex(words.w3 as u32, 4);
-    put_hex(words.w4 as u32, 4);
-}
-
 fn put_values(values: &[u32]) {
-    put(44);
-    for i in 0..values.len() {
-        put_hex(values[i], 1);
+    io::write_all(1, b",");
+    for &value in values {
+        put_hex(value, 1);
     }
 }
 
 fn put_answer(answer: HostAnswer, reply: &[u8]) {
-    put(10);
+    io::write_all(1, b"\n");
     io::print_decimal(1, answer.number as u64);
-    put(44);
-    put(32);
+    io::write_all(1, b", ");
     io::print_decimal(1, answer.length as u64);
-    put_bytes(reply, answer.length);
+    for &byte in reply.iter().take(answer.length as usize) {
+        put_hex(byte as u32, 2);
+    }
     put_words(answer.control);
 }
 
@@ -145,8 +98,8 @@ fn call(
     reply: &mut [u8],
 ) -> Words {
     let answer = host_slave::serve(setup, table, values, control, STATUS, received, reply);
-    put_answer(answer, &reply[..]);
-    put_values(&values[..]);
+    put_answer(answer, reply);
+    put_values(values);
     answer.control
 }
 
@@ -182,14 +135,16 @@ fn ask_short(setup: Setup, received: &[u8], bytes: usize, count: usize, room: us
     let mut reply = [0u8; 256];
     call(
         setup,
-        &BENCH[0..bytes],
-        &mut values[0..count],
+        &BENCH[..bytes],
+        &mut values[..count],
         CONTROL,
         received,
-        &mut reply[0..room],
+        &mut reply[..room],
     );
 }
 
+// The call that the first byte of a line asks for. A `match` on the byte, as the first lines of standard input say it: an enum would only
+// name each number again.
 fn ask(kind: u8, setup: Setup, received: &[u8], left: Left) -> Left {
     match kind {
         0 => ask_drive(setup, received),
@@ -202,42 +157,33 @@ fn ask(kind: u8, setup: Setup, received: &[u8], left: Left) -> Left {
     left
 }
 
-// The call of a line's bytes.
+// The call of a line's bytes: the table's kind, the set-up, the telegram.
 fn run(bytes: &[u8], left: Left) -> Left {
-    if bytes.len() < 4 {
+    let [kind, node, pkw, pzd, received @ ..] = bytes else {
         return left;
-    }
-    let setup = Setup {
-        node: bytes[1],
-        pkw: bytes[2],
-        pzd: bytes[3],
     };
-    ask(bytes[0], setup, &bytes[4..], left)
+    let setup = Setup {
+        node: *node,
+        pkw: *pkw,
+        pzd: *pzd,
+    };
+    ask(*kind, setup, received, left)
 }
 
 fn run_line(line: &[u8], left: Left) -> Left {
     io::write_all(1, line);
     let mut bytes = [0u8; 304];
-    let n = read_bytes(line, &mut bytes);
-    run(&bytes[0..n], left)
-}
-
-fn run_lines(text: &[u8]) {
-    let mut left = FIRST;
-    let mut at = 0;
-    for i in 0..text.len() {
-        if text[i] == 10 {
-            if at <= i {
-                left = run_line(&text[at..i], left);
-            }
-            put(10);
-            at = i + 1;
-        }
-    }
+    let n = hex_lines::read_bytes(line, &mut bytes);
+    let next = run(&bytes[..n], left);
+    io::write_all(1, b"\n");
+    next
 }
 
 fn main() {
     let mut text = io::large_buffer();
     let n = io::read_full(0, &mut text);
-    run_lines(&text[..n]);
+    let mut left = FIRST;
+    for line in Lines(&text[..n]) {
+        left = run_line(line, left);
+    }
 }

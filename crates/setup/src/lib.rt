@@ -5,7 +5,7 @@ ghost use Rattle.std.specs.Prelude.{◌≡◌};
 ghost use Rattle.setup.specs.SetupRules.{setup_ok, area_count, other_length};
 
 #[repr(C)]
-#[derive(Clone, Copy)]
+#[derive(Clone, Copy, Debug, PartialEq, Eq)]
 pub struct Setup {
     pub node: u8,
     pub pkw: u8,
@@ -17,17 +17,10 @@ pub struct Setup {
 pub fn setup_ok(setup: Setup) -> bool
     ensures { result ≡ setup_ok setup }
 {
-    if 31 < setup.node {
-        return false;
-    }
-    if setup.pkw == 0 {
-        if setup.pzd == 0 {
-            return false;
-        }
-    } else if setup.pkw != 3 && setup.pkw != 4 {
-        return false;
-    }
-    setup.pzd <= 4
+    setup.node <= 31
+        && matches!(setup.pkw, 0 | 3 | 4)
+        && setup.pzd <= 4
+        && (setup.pkw != 0 || setup.pzd != 0)
 }
 
 // How many words the parameter area of a telegram with n net bytes has: the setting, whatever n.

@@ -4,15 +4,13 @@
 ghost use Rattle.std.specs.Prelude.{◌≡◌};
 ghost use Rattle.signs.specs.Signs.{signed_of};
 
-// A word by its low 16 bits: the sign bit is flipped and its weight taken off.
+// A word by its low 16 bits.
+#[tactic(auto, unfolding(crate::specs::Signs::signed_of))]
 pub fn signed_of(double: bool, x: u32) -> i32
     ensures { result ≡ signed_of double x }
 {
     if double {
-        if x < 2147483648 {
-            return x as i32;
-        }
-        return -1 - ((4294967295 - x) as i32);
+        return x.cast_signed();
     }
-    ((x % 65536 ^ 32768) as i32) - 32768
+    i32::from(((x % 65536) as u16).cast_signed())
 }

@@ -2,16 +2,15 @@
 use mathlib.Core.Path.{◌≡◌, refl}
 use mathlib.Core.Bool.{Bool, true, false}
 use mathlib.Core.List.{List}
-use Prim.Native.Nat.{ℕ, ◌+◌, ◌-◌, ◌*◌, ◌/◌, ◌≤◌, ◌<◌}
+use Prim.Native.Nat.{ℕ, ◌+◌, ◌-◌, ◌*◌, ◌/◌, ◌≤◌}
 use native.Mathlib.Omega.{arith}
-use borrow.Author.Tests.{lt-ltb, le-ltb, ne_eqb}
+use borrow.Author.Tests.{le-ltb, ne_eqb}
 use lib.Dec.{eqb}
 use lib.ListN.{length}
+use Rattle.std.specs.Prelude.{Option, Some, None}
 use Rattle.area.specs.declared.Area.{Area}
 use Rattle.area.specs.Read.{area_at}
 use Rattle.entry.specs.Fields.{count_of}
-use Rattle.table.specs.declared.Found.{Found}
-use Rattle.table.specs.declared.Found.TheVariants.{At, Nothing}
 use Rattle.table.specs.Records.{find_in, entry_at, entries, first_place, counts_of}
 use Rattle.table.proofs.RecordsLaws.{found_below, places_fit, one_each}
 use Rattle.page.specs.Page.{base_of, full_number, named}
@@ -25,11 +24,11 @@ use Rattle.slave.specs.Perform.{found_of, replying, plan_on, plan_in, plan_at}
 
 -- ---- what is found is one of the records, and its places are among the values
 
-pub found_whole : (t : List ℕ) (number k : ℕ) → find_in t number ≡ At k → 12 * k + 12 ≤ length t
+pub found_whole : (t : List ℕ) (number k : ℕ) → find_in t number ≡ Some k → 12 * k + 12 ≤ length t
 unfolding entries
 found_whole t number k e = omega (arith, (found_below number t (length t / 12) 0 k e).below)
 
-pub found_fits : (t : List ℕ) (number k : ℕ) → find_in t number ≡ At k → first_place t k + count_of (entry_at t k) ≤ counts_of (entries t)
+pub found_fits : (t : List ℕ) (number k : ℕ) → find_in t number ≡ Some k → first_place t k + count_of (entry_at t k) ≤ counts_of (entries t)
 unfolding entries
 found_fits t number k e = places_fit t (length t / 12) k (omega (arith, (found_below number t (length t / 12) 0 k e).below))
 
@@ -38,16 +37,12 @@ pub places_single : (t : List ℕ) (k : ℕ) → 12 * k ≤ length t → counts_
 unfolding entries
 places_single t k h c = one_each t (length t / 12) k (omega arith) c
 
--- ---- the cases of a task
+-- ---- a base of 2000 to 2047 is error 0
 
 module _ (n : ℕ) (t : List ℕ) (a : Area) where
   pub plan_unnamed : (a.pke / 4096 ≡ 0 → ⊥) → 2000 ≤ base_of a.pke → plan_in n t a ≡ replying (error_area a NoParameter)
   unfolding plan_in found_of
   plan_unnamed i h = rw (ne_eqb (a.pke / 4096) 0 i, le-ltb _ _ h)
-
-  pub plan_found : (f : Found) → (a.pke / 4096 ≡ 0 → ⊥) → base_of a.pke < 2000 → find_in t (full_number a.pke a.ind) ≡ f → plan_in n t a ≡ plan_on n t a f
-  unfolding plan_in found_of
-  plan_found f i h e = rw (ne_eqb (a.pke / 4096) 0 i, lt-ltb _ _ h, e)
 
 -- ---- the place of a plan is one of the values
 
@@ -57,21 +52,25 @@ fits_more (Fetch area element) m n h f = omega (arith, h, f)
 fits_more (Write area element) m n h f = omega (arith, h, f)
 
 -- the record that an area names is one that the search found
-pub named_found : (t : List ℕ) (a : Area) (k : ℕ) → found_of t a ≡ At k → find_in t (full_number a.pke a.ind) ≡ At k
+pub named_found : (t : List ℕ) (a : Area) (k : ℕ) → found_of t a ≡ Some k → find_in t (full_number a.pke a.ind) ≡ Some k
 unfolding found_of
 named_found t a k e = go (named a.pke) refl
   where
-    go : (b : Bool) → named a.pke ≡ b → find_in t (full_number a.pke a.ind) ≡ At k
+    go : (b : Bool) → named a.pke ≡ b → find_in t (full_number a.pke a.ind) ≡ Some k
     go true p = rw p at e
     go false p = let z : ◌≡◌ {A = ℕ} 0 1 = cc in absurd (omega arith)
+
+-- so its record is whole
+pub named_whole : (t : List ℕ) (a : Area) (k : ℕ) → found_of t a ≡ Some k → 12 * k + 12 ≤ length t
+named_whole t a k e = found_whole t (full_number a.pke a.ind) k (named_found t a k e)
 
 module _ (n : ℕ) (t : List ℕ) (count : ℕ) (enough : counts_of (entries t) ≤ count) where
   abbrev Fits : Plan → Type 0
   Fits p = DeedFits p.deed (count - p.first)
 
-  on_fits : (a : Area) (f : Found) → found_of t a ≡ f → Fits (plan_on n t a f)
-  on_fits a Nothing e = tt
-  on_fits a (At k) e =
+  on_fits : (a : Area) (f : Option ℕ) → found_of t a ≡ f → Fits (plan_on n t a f)
+  on_fits a None e = tt
+  on_fits a (Some k) e =
       fits_more (deed_on n a (entry_at t k)) (count_of (entry_at t k)) (count - first_place t k)
       (omega (arith, found_fits t (full_number a.pke a.ind) k (named_found t a k e), enough)) (deed_fits n a (entry_at t k))
 

@@ -8,12 +8,10 @@
 --     carried_out p m       a plan on the memory m
 --     perform_of n t m a    the task in an area a, done
 --     task_done n t m rx    the task of a telegram, done
-use Rattle.std.specs.Prelude.{ℕ, ◌+◌, ◌/◌, ◌≡◌, cond, List, eqb, get_or}
+use Rattle.std.specs.Prelude.{ℕ, ◌+◌, ◌/◌, ◌≡◌, cond, List, eqb, get_or, Option, Some, None}
 use Rattle.area.specs.declared.Area.{Area}
 use Rattle.area.specs.Read.{empty_area, area_at}
 use Rattle.opening.specs.Lent.{Memory, stored}
-use Rattle.table.specs.declared.Found.{Found}
-use Rattle.table.specs.declared.Found.TheVariants.{At, Nothing}
 use Rattle.table.specs.Records.{entry_at, find_in, first_place}
 use Rattle.page.specs.Page.{full_number, named}
 use Rattle.errors.specs.declared.ParameterError.TheVariants.{NoParameter}
@@ -42,17 +40,17 @@ done_by (Write area element) first m = record { area = area; memory = stored m (
 -- ---- what is asked
 
 -- a base of 2000 to 2047 names no parameter
-unfoldable pub found_of : List ℕ → Area → Found
-found_of t a = cond (named a.pke) (find_in t (full_number a.pke a.ind)) Nothing
+unfoldable pub found_of : List ℕ → Area → Option ℕ
+found_of t a = cond (named a.pke) (find_in t (full_number a.pke a.ind)) None
 
 -- nothing is asked of the memory
 abbrev pub replying : Area → Plan
 replying a = record { deed = Reply a; first = 0 }
 
 -- error 0 where there is no such parameter
-abbrev pub plan_on : ℕ → List ℕ → Area → Found → Plan
-plan_on n t a Nothing = replying (error_area a NoParameter)
-plan_on n t a (At k) = record { deed = deed_on n a (entry_at t k); first = first_place t k }
+abbrev pub plan_on : ℕ → List ℕ → Area → Option ℕ → Plan
+plan_on n t a None = replying (error_area a NoParameter)
+plan_on n t a (Some k) = record { deed = deed_on n a (entry_at t k); first = first_place t k }
 
 -- task 0: the whole area is 0, and no error is looked for
 unfoldable pub plan_in : ℕ → List ℕ → Area → Plan

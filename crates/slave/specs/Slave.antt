@@ -1,5 +1,6 @@
 -- The whole slave call (document 01, Slave and Answer numbers): what it is given, and what it leaves.
 --     Call                    what a call is given
+--     call_with d vs ..       what it is given by a drive, with the values vs, control and status words, received bytes and buffer
 --     lent_by k               what it lends to the opening check
 --     opening_at k            the answer of the opening check
 --     receiving k rx          the same call with other bytes received
@@ -15,27 +16,28 @@
 --     mirror_case node k      16, or a mirror
 --     broadcast_case n k      17, 18, or a broadcast
 --     call_of k               the call
-use Rattle.std.specs.Prelude.{ℕ, ◌-◌, ◌≡◌, List, [], ◌∷◌, length, take}
+use Rattle.std.specs.Prelude.{ℕ, ◌-◌, ◌≡◌, List, [], ◌∷◌, length, take, Option, Result, Ok, Err}
 use Rattle.rows.specs.Rows.{first_of}
 use Rattle.words.specs.declared.Words.{Words}
 use Rattle.setup.specs.declared.Setup.{Setup}
 use Rattle.setup.specs.SetupRules.{area_count, other_node, other_length}
 use Rattle.address.specs.Address.{decoded_of}
-use Rattle.address.specs.declared.Decoded.{Decoded}
-use Rattle.address.specs.declared.Decoded.TheVariants.{Normal, Mirror, Broadcast, Unread}
-use Rattle.opening.specs.Lent.{Memory, PlaceList, Lent}
+use Rattle.address.specs.declared.Fault.{Fault}
+use Rattle.address.specs.declared.Telegram.{Telegram}
+use Rattle.address.specs.declared.Telegram.TheVariants.{Normal, Mirror, Broadcast}
+use Rattle.opening.specs.declared.Drive.{Drive}
+use Rattle.opening.specs.Lent.{Memory, Lent, lent_list}
 use Rattle.opening.specs.Answers.{opening_of}
-use Rattle.opening.specs.declared.Opening.{Opening}
-use Rattle.opening.specs.declared.Opening.TheVariants.{Passed, Closed}
 use Rattle.area.specs.declared.Area.{Area}
 use Rattle.area.specs.Net.{fixed_words, process_words, net_of}
 use Rattle.net.specs.Telegram.{telegram_of, written}
 use Rattle.control.specs.Control.{control_taken, void_in, control_commanded}
 use Rattle.slave_answers.specs.declared.Refusal.{Refusal}
 use Rattle.slave_answers.specs.declared.Refusal.TheVariants.{AtOpening, InTelegram, OtherNode, OtherLength, VoidBroadcast}
-use Rattle.slave_answers.specs.declared.Answer.TheVariants.{Replied, Mirrored, Taken, Refused}
+use Rattle.slave_answers.specs.declared.Answer.TheVariants.{Replied, Mirrored, Taken}
 use Rattle.slave.specs.declared.Served.{Served}
 use Rattle.slave.specs.Perform.{Performed, task_done}
+use Rattle.slave_answers.specs.declared.OpeningFault.{OpeningFault}
 
 -- ---- a call and its outcome
 
@@ -43,16 +45,20 @@ pub record Call : Type 0 where
   pub setup : Setup
   pub table : List ℕ
   pub memory : Memory
-  pub list : PlaceList
+  pub list : Option (List ℕ)
   pub control : Words
   pub status : Words
   pub received : List ℕ
   pub buffer : List ℕ
 
+abbrev pub call_with : Drive → List ℕ → Words → Words → List ℕ → List ℕ → Call
+call_with d vs control status rx out =
+    record { setup = d.setup; table = d.table.now; memory = record { values = vs }; list = lent_list d.places; control = control; status = status; received = rx; buffer = out }
+
 abbrev pub lent_by : Call → Lent
 lent_by k = record { setup = k.setup; table = k.table; memory = k.memory; list = k.list; room = length k.buffer }
 
-abbrev pub opening_at : Call → Opening
+abbrev pub opening_at : Call → Result (Unit {0}) OpeningFault
 opening_at k = opening_of (lent_by k)
 
 abbrev pub receiving : Call → List ℕ → Call
@@ -71,7 +77,7 @@ pub record Leaves (o : Outcome) (r : Served) (m : Memory) (out : List ℕ) : Typ
 
 -- a refusal reports length 0, returns the given control state and writes nothing
 abbrev pub refused_of : Refusal → Call → Outcome
-refused_of refusal k = record { served = record { answer = Refused refusal; length = 0; control = k.control }; memory = k.memory; reply = k.buffer }
+refused_of refusal k = record { served = record { answer = Err refusal; length = 0; control = k.control }; memory = k.memory; reply = k.buffer }
 
 -- the reply: the buffer's first bytes, as many as the call reports
 abbrev pub sent_by : Outcome → List ℕ
@@ -99,7 +105,7 @@ reply_at n k = reply_of k.setup n (task_at n k).area k.status
 abbrev pub normal_outcome : ℕ → Call → Outcome
 normal_outcome n k =
     record {
-      served = record { answer = Replied; length = length (reply_at n k); control = control_taken k.setup n k.control k.received };
+      served = record { answer = Ok Replied; length = length (reply_at n k); control = control_taken k.setup n k.control k.received };
       memory = (task_at n k).memory;
       reply = written k.buffer (reply_at n k);
     }
@@ -113,7 +119,7 @@ normal_case node n k =
 
 abbrev pub mirror_outcome : Call → Outcome
 mirror_outcome k = record {
-  served = record { answer = Mirrored; length = length k.received; control = k.control };
+  served = record { answer = Ok Mirrored; length = length k.received; control = k.control };
   memory = k.memory;
   reply = written k.buffer k.received;
 }
@@ -125,7 +131,7 @@ mirror_case node k = first_of ((other_node k.setup node, refused_of OtherNode k)
 
 abbrev pub taken_outcome : ℕ → Call → Outcome
 taken_outcome n k = record {
-  served = record { answer = Taken; length = 0; control = control_commanded k.setup n k.control k.received };
+  served = record { answer = Ok Taken; length = 0; control = control_commanded k.setup n k.control k.received };
   memory = k.memory;
   reply = k.buffer;
 }
@@ -137,18 +143,18 @@ broadcast_case n k =
 
 -- ---- the call: 20, 21, 22, 25, 23, 10 to 15, then 16 to 18 by the kind of the telegram
 
-abbrev pub execute_decoded : Decoded → Call → Outcome
-execute_decoded (Normal node start end) k = normal_case node (end - start) k
-execute_decoded (Mirror node) k = mirror_case node k
-execute_decoded Broadcast k = broadcast_case (net_in k.received) k
-execute_decoded (Unread fault) k = refused_of (InTelegram fault) k
+abbrev pub execute_decoded : Result Telegram Fault → Call → Outcome
+execute_decoded (Ok (Normal node start end)) k = normal_case node (end - start) k
+execute_decoded (Ok (Mirror node)) k = mirror_case node k
+execute_decoded (Ok Broadcast) k = broadcast_case (net_in k.received) k
+execute_decoded (Err fault) k = refused_of (InTelegram fault) k
 
 unfoldable pub execute_of : Call → Outcome
 execute_of k = execute_decoded (decoded_of k.received) k
 
-abbrev pub call_opened : Opening → Call → Outcome
-call_opened Passed k = execute_of k
-call_opened (Closed fault) k = refused_of (AtOpening fault) k
+abbrev pub call_opened : Result (Unit {0}) OpeningFault → Call → Outcome
+call_opened (Ok done) k = execute_of k
+call_opened (Err fault) k = refused_of (AtOpening fault) k
 
 unfoldable pub call_of : Call → Outcome
 call_of k = call_opened (opening_at k) k

@@ -6,24 +6,20 @@ ghost use Rattle.rows.specs.Rows.{first_of};
 ghost use Rattle.step.specs.Step.{settled_of, first_rows, opened, lge_rows, promised, step_of};
 
 // What an item does: the next state, and the length of the telegram that it completed, else 0.
-#[derive(Clone, Copy)]
+// The length is no Option: 0 is how C's uss_received says that nothing was handed out.
+#[derive(Clone, Copy, Debug, PartialEq, Eq)]
 pub struct Move {
     pub state: u32,
     pub length: u32,
 }
 
-// The state that a number says: disarmed where it is none, or says more bytes than the page has.
+// The state that a number says: disarmed where it is none, or says more bytes than the page has. It stays a number and is no enum, since
+// C's uss_receiver holds it, and the next one is one more.
 #[tactic(auto, unfolding(crate::specs::Step::settled_of))]
 pub fn settle(state: u32, room: usize) -> u32
     ensures { result ≡ settled_of state room }
 {
-    if 256 < state {
-        return 0;
-    }
-    if state == 0 {
-        return 0;
-    }
-    if room < (state - 1) as usize {
+    if state == 0 || 256 < state || room < (state - 1) as usize {
         return 0;
     }
     state
@@ -55,13 +51,7 @@ fn take_lge(item: u16, page: &mut [u8]) -> Move
     ensures value { result ≡ (first_of (lge_rows item page.old) (promised item page.old)).move }
     ensures page_after { page.new ≡ (first_of (lge_rows item page.old) (promised item page.old)).page }
 {
-    if item < 3 {
-        return onward(0);
-    }
-    if 254 < item {
-        return onward(0);
-    }
-    if page.len() < item as usize + 2 {
+    if !(3..=254).contains(&item) || page.len() < item as usize + 2 {
         return onward(0);
     }
     page[1] = item as u8;

@@ -10,13 +10,12 @@ use native.Mathlib.Omega.{arith}
 use native.Mathlib.Numerals.{add-one}
 use native.Mathlib.Nat.{zero-add, add-zero, suc-add}
 use borrow.Author.Tests.{le-ltb, eq-eqb, ne_eqb, eqb-true, eqb-false}
+use Rattle.std.specs.Prelude.{Option, Some, None}
 use Rattle.words.specs.Words.{byte_at, double_at, Bytes}
 use Rattle.entry.specs.declared.Entry.{Entry}
 use Rattle.entry.specs.Fields.{entry_of, count_of}
 use Rattle.entry.proofs.CountLaws.{count_le, count_ge}
-use Rattle.table.specs.declared.Found.{Found}
-use Rattle.table.specs.declared.Found.TheVariants.{At, Nothing}
-use Rattle.table.specs.Records.{record_of, entry_at, entries_from, find_from, counts_of}
+use Rattle.table.specs.Records.{record_of, entry_in, entry_at, entries_from, find_from, counts_of}
 
 -- the step of every loop over the records
 pub entries_step : (t : List ℕ) (n k : ℕ) → k < n → entries_from t (n - k) k ≡ entry_at t k ∷ entries_from t (n - (k + 1)) (k + 1)
@@ -78,7 +77,7 @@ module _ (t : List ℕ) (k m : ℕ) (there : 12 * k + 12 ≤ length t) (twelve :
       let long : 12 ≤ length part = omega (arith, length-take-le m (drop (12 * k) t) (simp length-drop (omega arith))) in
       rw (le-ltb (length part) 12 long, double_part t m (12 * k) 0 (12 * k) (omega arith) (omega arith), double_part t m (12 * k) 4 (12 * k + 4) (omega arith) refl, double_part t m (12 * k) 8 (12 * k + 8) (omega arith) refl)
 
-  pub entry_part : entry_of (record_of part).head (record_of part).minimum (record_of part).maximum ≡ entry_at t k
+  pub entry_part : entry_in part ≡ entry_at t k
   unfolding entry_at
   entry_part = rw record_part
 
@@ -88,7 +87,7 @@ count_at_le t k = count_le (double_at t (12 * k)) (double_at t (12 * k + 4)) (do
 
 -- the search, record by record
 module _ (number : ℕ) (e : Entry) (es : List Entry) (k : ℕ) where
-  pub find_here : e.number ≡ number → find_from number (e ∷ es) k ≡ At k
+  pub find_here : e.number ≡ number → find_from number (e ∷ es) k ≡ Some k
   unfolding find_from
   find_here h = simp (eq-eqb _ _ h)
 
@@ -96,7 +95,7 @@ module _ (number : ℕ) (e : Entry) (es : List Entry) (k : ℕ) where
   unfolding find_from
   find_on h = simp (ne_eqb _ _ h, add-one)
 
-pub find_none : (number k : ℕ) → find_from number [] k ≡ Nothing
+pub find_none : (number k : ℕ) → find_from number [] k ≡ None
 unfolding find_from
 find_none number k = refl
 
@@ -105,14 +104,14 @@ pub record Finds (t : List ℕ) (number k n : ℕ) : Type 0 where
   pub below : k < n
   pub is : (entry_at t k).number ≡ number
 
-found_go : (t : List ℕ) (number j k n : ℕ) (rest : Found) (b : Bool) → eqb (entry_at t j).number number ≡ b → cond b (At j) rest ≡ At k
-    → (rest ≡ At k → Finds t number k (suc j + n)) → Finds t number k (j + suc n)
+found_go : (t : List ℕ) (number j k n : ℕ) (rest : Option ℕ) (b : Bool) → eqb (entry_at t j).number number ≡ b → cond b (Some j) rest ≡ Some k
+    → (rest ≡ Some k → Finds t number k (suc j + n)) → Finds t number k (j + suc n)
 found_go t number j k n rest true q e h =
     let s : j ≡ k = cc in
     record { below = omega arith; is = ap (λ (i : ℕ). (entry_at t i).number) (sym s) ∙ eqb-true (entry_at t j).number number q }
 found_go t number j k n rest false q e h = let f = h e in record { below = omega arith; is = f.is }
 
-pub found_below : (number : ℕ) (t : List ℕ) (n j k : ℕ) → find_from number (entries_from t n j) j ≡ At k → Finds t number k (j + n)
+pub found_below : (number : ℕ) (t : List ℕ) (n j k : ℕ) → find_from number (entries_from t n j) j ≡ Some k → Finds t number k (j + n)
 unfolding find_from entries_from
 found_below number t zero j k e = let z : ◌≡◌ {A = ℕ} 0 1 = cc in absurd (omega arith)
 found_below number t (suc n) j k e =

@@ -7,7 +7,7 @@ use Rattle.signs.specs.Signs.{signed_of}
 use Rattle.limits.specs.Limits.{number_of, at_most, fits_in, is_within}
 use Rattle.table.specs.Records.{entry_at, entries_from, entries, counts_of}
 use Rattle.table_check.specs.declared.TableCheck.{TableCheck}
-use Rattle.table_check.specs.Checks.{told, or_else, record_rule, records_check, run_check, runs_check, table_check_of}
+use Rattle.table_check.specs.Checks.{told, length_check, record_rule, records_check, run_check, runs_check, values_check, content_check, table_check_of}
 
 -- 1000: two words, unsigned, 0 to 10; 1082: a signed word, -100 to 100
 abbrev first : List ℕ
@@ -39,5 +39,5 @@ pub known_checks : map (λ (x : List ℕ × List ℕ). table_check_of x.0 x.1)
     ∷ [])
     ≡ tells 0 0 0 0 ∷ tells 21 1 1 0 ∷ tells 21 3 1 0 ∷ tells 21 4 1 0 ∷ tells 21 5 1 0 ∷ tells 21 6 1 0 ∷ tells 21 7 0 0 ∷ tells 21 8 1 0
     ∷ tells 22 10 2 3 ∷ tells 22 11 1 2 ∷ tells 22 11 0 1 ∷ tells 0 0 0 0 ∷ []
-unfolding table_check_of told or_else record_rule records_check run_check runs_check entry_of count_of signed_of number_of at_most fits_in is_within entry_at entries_from entries counts_of
+unfolding table_check_of content_check told length_check record_rule records_check run_check runs_check values_check entry_of count_of signed_of number_of at_most fits_in is_within entry_at entries_from entries counts_of
 known_checks = refl

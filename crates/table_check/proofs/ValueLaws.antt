@@ -3,26 +3,27 @@
 use Prim.Native.Nat.{ℕ, zero, suc, ◌+◌, ◌/◌, ◌%◌, ◌<◌, ◌≤◌}
 use mathlib.Core.Path.{◌≡◌, refl, sym, ap, ◌∙◌, subst}
 use mathlib.Core.Logic.{◌⊎◌, inl, inr}
-use mathlib.Core.List.{List, [], ◌∷◌}
+use mathlib.Core.List.{List}
 use mathlib.Core.Bool.{Bool, true, false, cond, ◌&&◌}
 use native.Mathlib.Omega.{arith}
 use native.Mathlib.Nat.{eq-or-lt_of_le, add-zero}
-use borrow.Author.Tests.{eqb-true, eqb-false, leb-true, eq-eqb}
+use borrow.Author.Tests.{eqb-true, leb-true, eq-eqb}
 use lib.Dec.{eqb, leb}
 use lib.ListN.{length, get_or}
+use Rattle.std.specs.Prelude.{Ok, Err}
 use Rattle.rows.proofs.BoolLaws.{and_left, and_right}
 use Rattle.entry.specs.declared.Entry.{Entry}
 use Rattle.entry.specs.Fields.{count_of}
 use Rattle.limits.specs.Limits.{is_within}
 use Rattle.table.specs.Records.{entry_at, entries_from, entries, counts_of, first_place}
 use Rattle.opening.specs.Rules.{rising_from, each_ok, runs_ok, table_ok, values_ok}
-use Rattle.table_check.specs.declared.Rule.TheVariants.{Kept, ValueCount, OutsideLimits}
+use Rattle.table_check.specs.declared.Rule.TheVariants.{ValueCount, OutsideLimits}
 use Rattle.table_check.specs.declared.TableCheck.{TableCheck}
 use Rattle.table_check.specs.RuleNumbers.{rule_number}
-use Rattle.table_check.specs.Checks.{told, records_check, run_check, runs_check, table_check_of}
+use Rattle.table_check.specs.Checks.{told, tells, Checked, records_check, run_check, runs_check, content_check, table_check_of}
 use Rattle.table_check.specs.Faults.{ValueNamed}
-use Rattle.table_check.proofs.CheckLaws.{runs_outside, runs_on, runs_end, check_count, check_runs}
-use Rattle.table_check.proofs.NumberLaws.{kept_number, runs_number, table_records_number}
+use Rattle.table_check.proofs.CheckLaws.{runs_outside, runs_on, runs_end, content_count, content_runs}
+use Rattle.table_check.proofs.NumberLaws.{numbered_ok, numbered_err, runs_numbered, table_records_numbered}
 use Rattle.table_check.proofs.RecordLaws.{place_next}
 
 -- ---- the values of one record
@@ -60,35 +61,33 @@ run_past e vs n k place r h m = record {
     go q b (inl s) = subst (λ (i : ℕ). is_within e (get_or vs i 0) ≡ true) s h
     go q b (inr l) = m.before q l b
 
-outside_number : (k p : ℕ) → (told OutsideLimits k p).number ≡ 22
-unfolding told
-outside_number k p = refl
-
-run_named : (e : Entry) (vs : List ℕ) (n k place : ℕ) → ((run_check e vs n k place).number ≡ 0 → ⊥) → RunNamed e vs n k place (run_check e vs n k place)
+run_named : (e : Entry) (vs : List ℕ) (n k place : ℕ) (r : TableCheck) → run_check e vs n k place ≡ Err r → RunNamed e vs n k place r
 unfolding run_check
-run_named e vs zero k place h = absurd (h (kept_number 0 0))
-run_named e vs (suc n) k place h = go (is_within e (get_or vs place 0)) refl (run_named e vs n k (suc place)) h
+run_named e vs zero k place r h = absurd cc
+run_named e vs (suc n) k place r h = go (is_within e (get_or vs place 0)) refl (run_named e vs n k (suc place) r) h
   where
-    rest : TableCheck
+    rest : Checked
     rest = run_check e vs n k (suc place)
 
-    go : (b : Bool) → is_within e (get_or vs place 0) ≡ b → ((rest.number ≡ 0 → ⊥) → RunNamed e vs n k (suc place) rest)
-        → ((cond b rest (told OutsideLimits k place)).number ≡ 0 → ⊥) → RunNamed e vs (suc n) k place (cond b rest (told OutsideLimits k place))
-    go true q ih h = run_past e vs n k place rest q (ih h)
-    go false q ih h = run_here e vs n k place q
+    go : (b : Bool) → is_within e (get_or vs place 0) ≡ b → (rest ≡ Err r → RunNamed e vs n k (suc place) r)
+        → cond b rest (Err (told OutsideLimits k place)) ≡ Err r → RunNamed e vs (suc n) k place r
+    go true q ih h = run_past e vs n k place r q (ih h)
+    go false q ih h =
+        let s : told OutsideLimits k place ≡ r = cc in
+        subst (RunNamed e vs (suc n) k place) s (run_here e vs n k place q)
 
 -- nothing is told of values that are all within
-run_kept : (e : Entry) (vs : List ℕ) (n k place i : ℕ) → (run_check e vs n k place).number ≡ 0 → i < n → is_within e (get_or vs (place + i) 0) ≡ true
+run_kept : (e : Entry) (vs : List ℕ) (n k place i : ℕ) → run_check e vs n k place ≡ Ok tt → i < n → is_within e (get_or vs (place + i) 0) ≡ true
 unfolding run_check
 run_kept e vs zero k place i h b = absurd (omega arith)
 run_kept e vs (suc n) k place i h b = go (is_within e (get_or vs place 0)) refl h i b (run_kept e vs n k (suc place))
   where
-    rest : TableCheck
+    rest : Checked
     rest = run_check e vs n k (suc place)
 
-    go : (w : Bool) → is_within e (get_or vs place 0) ≡ w → (cond w rest (told OutsideLimits k place)).number ≡ 0 → (j : ℕ) → j < suc n
-        → ((m : ℕ) → rest.number ≡ 0 → m < n → is_within e (get_or vs (suc place + m) 0) ≡ true) → is_within e (get_or vs (place + j) 0) ≡ true
-    go false q z j c ih = absurd (omega (arith, outside_number k place, z))
+    go : (w : Bool) → is_within e (get_or vs place 0) ≡ w → cond w rest (Err (told OutsideLimits k place)) ≡ Ok tt → (j : ℕ) → j < suc n
+        → ((m : ℕ) → rest ≡ Ok tt → m < n → is_within e (get_or vs (suc place + m) 0) ≡ true) → is_within e (get_or vs (place + j) 0) ≡ true
+    go false q z j c ih = absurd cc
     go true q z zero c ih = rw add-zero q
     go true q z (suc j) c ih =
         let s : place + suc j ≡ suc place + j = omega arith in
@@ -137,11 +136,12 @@ named_past t vs j n r w m = record {
     go k b (inl s) = subst (λ (x : ℕ). (i : ℕ) → i < count_of (entry_at t x) → is_within (entry_at t x) (get_or vs (first_place t x + i) 0) ≡ true) s w
     go k b (inr l) = λ i c. m.before k i l b c
 
-runs_named : (t vs : List ℕ) (n j : ℕ) → ((runs_check (entries_from t n j) vs j (first_place t j)).number ≡ 0 → ⊥)
-    → NamedFrom t vs j (j + n) (runs_check (entries_from t n j) vs j (first_place t j))
+runs_named : (t vs : List ℕ) (n j : ℕ) (r : TableCheck) → runs_check (entries_from t n j) vs j (first_place t j) ≡ Err r → NamedFrom t vs j (j + n) r
 unfolding entries_from
-runs_named t vs zero j h = absurd (h (rw (runs_end vs j (first_place t j)) (kept_number 0 0)))
-runs_named t vs (suc n) j h = go (eqb r.number 0) refl (runs_named t vs n (suc j))
+runs_named t vs zero j r h =
+    let e = runs_end vs j (first_place t j) in
+    absurd cc
+runs_named t vs (suc n) j r h = go (run_check e vs (count_of e) j (first_place t j)) refl (runs_named t vs n (suc j) r)
   where
     e : Entry
     e = entry_at t j
@@ -149,45 +149,19 @@ runs_named t vs (suc n) j h = go (eqb r.number 0) refl (runs_named t vs n (suc j
     es : List Entry
     es = entries_from t n (suc j)
 
-    r : TableCheck
-    r = run_check e vs (count_of e) j (first_place t j)
-
-    all : TableCheck
-    all = runs_check (e ∷ es) vs j (first_place t j)
-
-    rest : TableCheck
-    rest = runs_check es vs (suc j) (first_place t (suc j))
-
-    go : (b : Bool) → eqb r.number 0 ≡ b → ((rest.number ≡ 0 → ⊥) → NamedFrom t vs (suc j) (suc j + n) rest) → NamedFrom t vs j (j + suc n) all
-    go true q ih =
-        let z = eqb-true r.number 0 q in
+    go : (c : Checked) → run_check e vs (count_of e) j (first_place t j) ≡ c
+        → (runs_check es vs (suc j) (first_place t (suc j)) ≡ Err r → NamedFrom t vs (suc j) (suc j + n) r) → NamedFrom t vs j (j + suc n) r
+    go (Ok done) q ih =
         let one : j + 1 ≡ suc j = omega arith in
-        let s : all ≡ rest = runs_on e es vs j (first_place t j) r refl z ∙ rw (one, ← (place_next t j)) in
         let m : j + suc n ≡ suc j + n = omega arith in
-        rw (s, m) (named_past t vs j (suc j + n) rest (λ i c. run_kept e vs (count_of e) j (first_place t j) i z c) (ih (λ v. h (ap (λ (x : TableCheck). x.number) s ∙ v))))
-    go false q ih =
-        let k = eqb-false r.number 0 q in
-        rw (runs_outside e es vs j (first_place t j) r refl k) (named_here t vs j (j + suc n) r (omega arith) (run_named e vs (count_of e) j (first_place t j) k))
+        let on = rw (one, ← (place_next t j)) at (runs_on e es vs j (first_place t j) q) in
+        rw m (named_past t vs j (suc j + n) r (λ i c. run_kept e vs (count_of e) j (first_place t j) i q c) (ih (sym on ∙ h)))
+    go (Err x) q ih =
+        let out = runs_outside e es vs j (first_place t j) x q in
+        let s : x ≡ r = cc in
+        subst (NamedFrom t vs j (j + suc n)) s (named_here t vs j (j + suc n) x (omega arith) (run_named e vs (count_of e) j (first_place t j) x q))
 
 -- ---- table and values
-
-runs_fine : (es : List Entry) (vs : List ℕ) (k place : ℕ) → (runs_check es vs k place).number ≡ 0 → runs_check es vs k place ≡ told Kept 0 0
-runs_fine [] vs k place h = runs_end vs k place
-runs_fine (e ∷ es) vs k place h = go (eqb r.number 0) refl (runs_fine es vs (k + 1) (place + count_of e))
-  where
-    r : TableCheck
-    r = run_check e vs (count_of e) k place
-
-    rest : TableCheck
-    rest = runs_check es vs (k + 1) (place + count_of e)
-
-    go : (b : Bool) → eqb r.number 0 ≡ b → (rest.number ≡ 0 → rest ≡ told Kept 0 0) → runs_check (e ∷ es) vs k place ≡ told Kept 0 0
-    go true q ih =
-        let s = runs_on e es vs k place r refl (eqb-true r.number 0 q) in
-        s ∙ ih (sym (ap (λ (x : TableCheck). x.number) s) ∙ h)
-    go false q ih =
-        let n = eqb-false r.number 0 q in
-        absurd (n (sym (ap (λ (x : TableCheck). x.number) (runs_outside e es vs k place r refl n)) ∙ h))
 
 -- a table that keeps its rules has whole records, at most 512
 ok_whole : (t : List ℕ) → table_ok t ≡ true → (length t % 12 ≡ 0) × (length t / 12 ≤ 512)
@@ -201,27 +175,29 @@ ok_whole t o =
     (eqb-true (length t % 12) 0 (and_left a b h), leb-true (length t / 12) 512 (and_right a b h))
 
 module _ (t vs : List ℕ) (o : table_ok t ≡ true) where
-  fine_records : (records_check (entries_from t (length t / 12) 0) 0 0 0).number ≡ 0
-  fine_records = table_records_number t (ok_whole t o).0 (ok_whole t o).1 ∙ rw o
+  abbrev es : List Entry
+  es = entries_from t (length t / 12) 0
+
+  fine_records : records_check es 0 0 0 ≡ Ok tt
+  fine_records = numbered_ok _ 21 (rw o at (table_records_numbered t (ok_whole t o).0 (ok_whole t o).1))
 
   -- another number of values: the places of the table are told
   pub count_named : (counts_of (entries t) ≡ length vs → ⊥) → table_check_of t vs ≡ told ValueCount (length t / 12) (counts_of (entries t))
-  unfolding entries
-  count_named n = check_count t vs (ok_whole t o).0 (ok_whole t o).1 (records_check (entries_from t (length t / 12) 0) 0 0 0) refl fine_records n
+  unfolding table_check_of entries
+  count_named n = ap tells (content_count t vs (ok_whole t o).0 (ok_whole t o).1 fine_records n)
 
-  runs_told : counts_of (entries t) ≡ length vs → table_check_of t vs ≡ runs_check (entries_from t (length t / 12) 0) vs 0 0
+  runs_told : counts_of (entries t) ≡ length vs → content_check t vs ≡ runs_check es vs 0 0
   unfolding entries
-  runs_told n = check_runs t vs (ok_whole t o).0 (ok_whole t o).1 (records_check (entries_from t (length t / 12) 0) 0 0 0) refl fine_records n
+  runs_told n = content_runs t vs (ok_whole t o).0 (ok_whole t o).1 fine_records n
 
   -- as many values as places: the first that is outside its limits is named
   pub value_named : counts_of (entries t) ≡ length vs → values_ok t vs ≡ false → ValueNamed t vs (table_check_of t vs)
-  unfolding entries entries_from counts_of
+  unfolding table_check_of entries entries_from counts_of
   value_named n v =
-      let r = runs_check (entries_from t (length t / 12) 0) vs 0 0 in
-      let w : runs_ok (entries_from t (length t / 12) 0) vs 0 ≡ false = rw (eq-eqb _ _ n) at v in
-      let s : r.number ≡ 22 = runs_number (entries_from t (length t / 12) 0) vs 0 0 ∙ rw w in
-      let m = runs_named t vs (length t / 12) 0 (λ z. absurd (omega (arith, s, z))) in
-      rw (runs_told n)
+      let w : runs_ok es vs 0 ≡ false = rw (eq-eqb _ _ n) at v in
+      let b = numbered_err _ 22 (rw w at (runs_numbered es vs 0 0)) in
+      let m = runs_named t vs (length t / 12) 0 b.0 b.1 in
+      rw (runs_told n, b.1)
       (record {
         below = omega (arith, m.below);
         rule_is = m.rule_is;
@@ -234,9 +210,9 @@ module _ (t vs : List ℕ) (o : table_ok t ≡ true) where
 
   -- nothing is at fault: all is 0
   pub fine_named : values_ok t vs ≡ true → table_check_of t vs ≡ record { number = 0; rule = 0; «record» = 0; place = 0 }
-  unfolding entries told
+  unfolding table_check_of entries
   fine_named v =
-      let es = entries_from t (length t / 12) 0 in
       let c = eqb (counts_of es) (length vs) in
       let n = eqb-true (counts_of es) (length vs) (and_left c (runs_ok es vs 0) v) in
-      runs_told n ∙ runs_fine es vs 0 0 (runs_number es vs 0 0 ∙ rw (and_right c (runs_ok es vs 0) v))
+      let w = and_right c (runs_ok es vs 0) v in
+      ap tells (runs_told n ∙ numbered_ok _ 22 (rw w at (runs_numbered es vs 0 0)))

@@ -2,38 +2,59 @@
 // broken first, by which record, and by which value. The opening check of a slave call says only 21 or 22.
 #![tactic(auto)]
 
-ghost use Rattle.std.specs.Prelude.{◌≡◌, not, ◌&&◌, ◌+◌, ◌*◌, ◌≤◌, length};
+ghost use Rattle.std.specs.Prelude.{◌≡◌, not, ◌&&◌, ◌+◌, ◌*◌, ◌≤◌, length, MatchResult};
 ghost use Rattle.limits.specs.Limits.{fits_in};
-ghost use Rattle.table.specs.Records.{entry_at, entries_from, counts_of};
+ghost use Rattle.table.specs.Records.{entries, counts_of};
 ghost use Rattle.opening.specs.Rules.{table_ok};
-ghost use Rattle.table_check.specs.RuleNumbers.{rule_number, rule_answer};
-ghost use Rattle.table_check.specs.Checks.{told, end_of, record_rule, records_check, run_check, runs_check, table_check_of};
+ghost use Rattle.table_check.specs.RuleNumbers.{rule_number, rule_fault};
+ghost use Rattle.table_check.specs.Checks.{told, record_rule, length_check, records_check, run_check, values_check, content_check, table_check_of};
 
-use entry::{Entry, count_places, entry_of};
+use entry::{Entry, count_places};
 use limits::{at_most, within};
-use slave_answers::{OpeningFault, number_opening};
-use table::record_of;
+use slave_answers::OpeningFault;
+use table::entry_in;
 
-// The rules, in the order in which they are looked at. Kept: none is broken.
-#[derive(Clone, Copy)]
+// The rules, in the order in which they are looked at, by their numbers.
+#[derive(Clone, Copy, Debug, PartialEq, Eq)]
 pub enum Rule {
-    Kept,
-    PartRecord,
-    ManyRecords,
-    NumberOrder,
-    HighNumber,
-    ManyElements,
-    SpareBit,
-    UpperHalf,
-    LimitOrder,
-    ManyPlaces,
-    ValueCount,
-    OutsideLimits,
+    PartRecord = 1,
+    ManyRecords = 2,
+    NumberOrder = 3,
+    HighNumber = 4,
+    ManyElements = 5,
+    SpareBit = 6,
+    UpperHalf = 7,
+    LimitOrder = 8,
+    ManyPlaces = 9,
+    ValueCount = 10,
+    OutsideLimits = 11,
 }
 
-// What a check tells: the answer's number (0, 21 or 22), the rule that is broken first, the record at fault, and of a value its place.
+// A rule's number.
+impl From<Rule> for u32 {
+    ghost from_gives = { λ rule number. number ≡ rule_number rule };
+
+    fn from(rule: Rule) -> u32 {
+        rule as u32
+    }
+}
+
+// What the opening check answers where a rule is broken.
+impl From<Rule> for OpeningFault {
+    ghost from_gives = { λ rule fault. fault ≡ rule_fault rule };
+
+    fn from(rule: Rule) -> OpeningFault {
+        match rule {
+            Rule::ValueCount | Rule::OutsideLimits => OpeningFault::BadValues,
+            _ => OpeningFault::BadTable,
+        }
+    }
+}
+
+// What a check tells: the answer's number (0, 21 or 22), the rule that is broken first, the record at fault, and of a value its place. It
+// is the struct of the call for C, so the rule is a number, and all is 0 where none is broken.
 #[repr(C)]
-#[derive(Clone, Copy)]
+#[derive(Clone, Copy, Debug, Default, PartialEq, Eq)]
 pub struct TableCheck {
     pub number: u32,
     pub rule: u32,
@@ -41,51 +62,15 @@ pub struct TableCheck {
     pub place: u32,
 }
 
-// ---- what is told
-
-// A rule's number.
-fn number_rule(rule: Rule) -> u32
-    ensures { result ≡ rule_number rule }
-{
-    match rule {
-        Rule::Kept => 0,
-        Rule::PartRecord => 1,
-        Rule::ManyRecords => 2,
-        Rule::NumberOrder => 3,
-        Rule::HighNumber => 4,
-        Rule::ManyElements => 5,
-        Rule::SpareBit => 6,
-        Rule::UpperHalf => 7,
-        Rule::LimitOrder => 8,
-        Rule::ManyPlaces => 9,
-        Rule::ValueCount => 10,
-        Rule::OutsideLimits => 11,
-    }
-}
-
-// The answer's number of a rule, by the rule's number.
-fn number_answer(rule: u32) -> u32
-    ensures { result ≡ rule_answer rule }
-{
-    if rule == 0 {
-        return 0;
-    }
-    if rule <= 9 {
-        return number_opening(OpeningFault::BadTable);
-    }
-    number_opening(OpeningFault::BadValues)
-}
-
-// A rule, with record and place. Here and below the bounds only keep numbers within 32 bits.
+// A broken rule, with record and place. The bounds only keep numbers within 32 bits.
 #[tactic(auto, unfolding(crate::specs::Checks::told))]
 fn tell(rule: Rule, k: usize, place: usize) -> TableCheck
     requires { (k ≤ 1000000) × (place ≤ 1000000) }
     ensures { result ≡ told rule k place }
 {
-    let number = number_rule(rule);
     TableCheck {
-        number: number_answer(number),
-        rule: number,
+        number: OpeningFault::from(rule).into(),
+        rule: rule.into(),
         record: k as u32,
         place: place as u32,
     }
@@ -93,175 +78,170 @@ fn tell(rule: Rule, k: usize, place: usize) -> TableCheck
 
 // ---- a record
 
-// Record k of a table that has it.
-#[tactic(auto, using(table::proofs::RecordsLaws::entry_part))]
-fn read_entry(t: &[u8], k: usize) -> Entry
-    requires { 12 * k + 12 ≤ length t.now }
-    ensures { result ≡ entry_at t.now k }
-{
-    let raw = record_of(&t[12 * k..12 * k + 12]);
-    entry_of(raw.head, raw.minimum, raw.maximum)
-}
-
 // Whether a word's limit has an upper half.
 #[tactic(auto, unfolding(limits::specs::Limits::fits_in))]
 fn has_upper_half(e: Entry) -> bool
     ensures { result ≡ not (fits_in e.double e.minimum && fits_in e.double e.maximum) }
 {
-    if e.double {
-        return false;
-    }
-    if 65535 < e.minimum {
-        return true;
-    }
-    65535 < e.maximum
+    !e.double && (65535 < e.minimum || 65535 < e.maximum)
 }
 
 // The first rule that a record breaks: `least` is the least number that may stand there, `place` the first of its places.
-#[tactic(auto, unfolding(crate::specs::Checks::record_rule))]
-fn find_rule(e: Entry, least: u16, place: usize) -> Rule
+#[tactic(auto, using(crate::proofs::CheckLaws::count_few), unfolding(crate::specs::Checks::record_rule))]
+fn find_rule(e: Entry, least: u16, place: usize) -> Option<Rule>
     requires { place ≤ 1000000 }
     ensures { result ≡ record_rule least place e }
 {
     if e.number < least {
-        return Rule::NumberOrder;
+        return Some(Rule::NumberOrder);
     }
     if 31999 < e.number {
-        return Rule::HighNumber;
+        return Some(Rule::HighNumber);
     }
     if 254 < e.elements {
-        return Rule::ManyElements;
+        return Some(Rule::ManyElements);
     }
     if e.spare != 0 {
-        return Rule::SpareBit;
+        return Some(Rule::SpareBit);
     }
     if has_upper_half(e) {
-        return Rule::UpperHalf;
+        return Some(Rule::UpperHalf);
     }
     if !at_most(e.double, e.signed, e.minimum, e.maximum) {
-        return Rule::LimitOrder;
+        return Some(Rule::LimitOrder);
     }
     if 4096 < place + count_places(e) {
-        return Rule::ManyPlaces;
+        return Some(Rule::ManyPlaces);
     }
-    Rule::Kept
+    None
+}
+
+// ---- the values of a record
+
+// The first of a record's n values that is outside its limits; the record is record k, its first value at a place. All values are handed
+// on and no part of them, since the place among all is what is told.
+#[tactic(auto, using(crate::proofs::CheckLaws::run_told))]
+fn check_run(e: Entry, values: &[u32], n: usize, k: usize, place: usize) -> Result<(), TableCheck>
+    requires { (n ≤ 255) × (k ≤ 512) × (place ≤ 999000) × (place + n ≤ length values.now) }
+    ensures { result ≡ run_check e values.now n k place }
+{
+    for i in 0..n {
+        if !within(e, values[place + i]) {
+            return Err(tell(Rule::OutsideLimits, k, place + i));
+        }
+    }
+    Ok(())
 }
 
 // ---- the records
 
-// The first of n records that breaks a rule.
-fn check_records(t: &[u8], n: usize) -> TableCheck
-    requires { (length t.now ≡ 12 * n) × (n ≤ 512) }
-    ensures { result ≡ records_check (entries_from t.now n 0) 0 0 0 }
-{
-    let mut least: u16 = 0;
-    let mut place: usize = 0;
-    let mut k: usize = 0;
-    while k < n {
-        let e = read_entry(t, k);
-        let found = tell(find_rule(e, least, place), k, 0);
-        if found.number != 0 {
-            return found;
+// The bytes of a table of whole records, 512 at most.
+#[derive(Clone, Copy, Debug)]
+struct Records<'a> {
+    bytes: &'a [u8],
+    count: usize,
+    ghost whole: { (length bytes.now ≡ 12 * count) × (count ≤ 512) },
+}
+
+impl<'a> Records<'a> {
+    // The records of a table whose length keeps the rules.
+    #[tactic(auto, using(crate::proofs::CheckLaws::length_told))]
+    fn of(table: &'a [u8]) -> Result<Self, TableCheck>
+        ensures { MatchResult result (λ r. r.bytes ≡ table.entry) (λ c. length_check table.now ≡ Err c) }
+    {
+        let count = table.len() / 12;
+        if table.len() % 12 != 0 {
+            return Err(tell(Rule::PartRecord, count.min(512), 0));
         }
-        least = e.number + 1;
-        place += count_places(e);
-        k += 1;
-    }
-    tell(Rule::Kept, 0, 0)
-}
-
-// The places of n records.
-fn count_all(t: &[u8], n: usize) -> usize
-    requires { (length t.now ≡ 12 * n) × (n ≤ 512) }
-    ensures { result ≡ counts_of (entries_from t.now n 0) }
-{
-    let mut places: usize = 0;
-    let mut k: usize = 0;
-    while k < n {
-        places += count_places(read_entry(t, k));
-        k += 1;
-    }
-    places
-}
-
-// ---- the values
-
-// The first of a record's n values that is outside its limits; the record is record k, its first value at a place.
-fn check_run(e: Entry, values: &[u32], n: usize, k: usize, place: usize) -> TableCheck
-    requires { (n ≤ 255) × (k ≤ 512) × (place ≤ 999000) × (place + n ≤ length values.now) }
-    ensures { result ≡ run_check e values.now n k place }
-{
-    let mut i: usize = 0;
-    while i < n {
-        if !within(e, values[place + i]) {
-            return tell(Rule::OutsideLimits, k, place + i);
+        if 512 < count {
+            return Err(tell(Rule::ManyRecords, 512, 0));
         }
-        i += 1;
+        Ok(Records {
+            bytes: table,
+            count,
+        })
     }
-    tell(Rule::Kept, 0, 0)
-}
 
-// The first value that is outside the limits of its record, where there are as many values as n records take places.
-fn check_values(t: &[u8], n: usize, values: &[u32]) -> TableCheck
-    requires { (length t.now ≡ 12 * n) × (n ≤ 512) × (counts_of (entries_from t.now n 0) ≡ length values.now) }
-    ensures { result ≡ runs_check (entries_from t.now n 0) values.now 0 0 }
-{
-    let mut place: usize = 0;
-    let mut k: usize = 0;
-    while k < n {
-        let e = read_entry(t, k);
-        let places = count_places(e);
-        let found = check_run(e, values, places, k, place);
-        if found.number != 0 {
-            return found;
+    // The first record that breaks a rule.
+    #[tactic(auto, using(crate::proofs::CheckLaws::records, crate::proofs::CheckLaws::rules_told))]
+    fn check(self) -> Result<(), TableCheck>
+        ensures { result ≡ records_check (entries self.entry.bytes.now) 0 0 0 }
+    {
+        let mut least: u16 = 0;
+        let mut place: usize = 0;
+        for k in 0..self.count {
+            let e = entry_in(&self.bytes[12 * k..12 * k + 12]);
+            if let Some(rule) = find_rule(e, least, place) {
+                return Err(tell(rule, k, 0));
+            }
+            least = e.number + 1;
+            place += count_places(e);
         }
-        place += places;
-        k += 1;
+        Ok(())
     }
-    tell(Rule::Kept, 0, 0)
-}
 
-// Whether a table keeps all its rules.
-pub fn is_table(table: &[u8]) -> bool
-    ensures { result ≡ table_ok table.now }
-{
-    let n = table.len() / 12;
-    if table.len() % 12 != 0 {
-        return false;
+    // The places of all records. slave::sum_places sums alike; one public function for both would need a `requires`: the sum has to fit.
+    #[tactic(auto, using(crate::proofs::CheckLaws::records))]
+    fn count_all(self) -> usize
+        ensures { result ≡ counts_of (entries self.entry.bytes.now) }
+    {
+        let mut places: usize = 0;
+        for k in 0..self.count {
+            places += count_places(entry_in(&self.bytes[12 * k..12 * k + 12]));
+        }
+        places
     }
-    if 512 < n {
-        return false;
+
+    // Whether there are as many values as the records take places; then the first value that is outside the limits of its record.
+    #[tactic(auto, using(crate::proofs::CheckLaws::records, crate::proofs::CheckLaws::runs_told))]
+    fn check_values(self, values: &[u32]) -> Result<(), TableCheck>
+        ensures { result ≡ values_check self.entry.bytes.now values.now }
+    {
+        let all = self.count_all();
+        if all != values.len() {
+            return Err(tell(Rule::ValueCount, self.count, all));
+        }
+        let mut place: usize = 0;
+        for k in 0..self.count {
+            let e = entry_in(&self.bytes[12 * k..12 * k + 12]);
+            let places = count_places(e);
+            check_run(e, values, places, k, place)?;
+            place += places;
+        }
+        Ok(())
     }
-    check_records(table, n).number == 0
 }
 
 // ---- table and values
 
-// The record after the last whole one; 512 where there are more.
-fn find_end(n: usize) -> usize
-    ensures { result ≡ end_of n }
+// Whether a table keeps all its rules.
+#[tactic(auto, using(crate::proofs::NumberLaws::length_table, crate::proofs::NumberLaws::records_test))]
+pub fn is_table(table: &[u8]) -> bool
+    ensures { result ≡ table_ok table.now }
 {
-    if 512 < n { 512 } else { n }
+    match Records::of(table) {
+        Ok(records) => records.check().is_ok(),
+        Err(_) => false,
+    }
 }
 
-// The first rule that is broken.
+// The first rule that is broken, where one is.
+#[tactic(auto, using(crate::proofs::CheckLaws::content_told))]
+fn check_content(table: &[u8], values: &[u32]) -> Result<(), TableCheck>
+    ensures { result ≡ content_check table.now values.now }
+{
+    let records = Records::of(table)?;
+    records.check()?;
+    records.check_values(values)
+}
+
+// The first rule that is broken; all 0 where none is.
+#[tactic(auto, unfolding(crate::specs::Checks::table_check_of))]
 pub fn check_table(table: &[u8], values: &[u32]) -> TableCheck
     ensures { result ≡ table_check_of table.now values.now }
 {
-    let n = table.len() / 12;
-    if table.len() % 12 != 0 {
-        return tell(Rule::PartRecord, find_end(n), 0);
+    match check_content(table, values) {
+        Ok(()) => TableCheck::default(),
+        Err(told) => told,
     }
-    if 512 < n {
-        return tell(Rule::ManyRecords, 512, 0);
-    }
-    let found = check_records(table, n);
-    if found.number != 0 {
-        return found;
-    }
-    let places = count_all(table, n);
-    if places != values.len() {
-        return tell(Rule::ValueCount, n, places);
-    }
-    check_values(table, n, values)
 }

@@ -7,7 +7,7 @@ ghost use Rattle.task.specs.declared.Act.TheVariants.{Count, Refuse};
 ghost use Rattle.task.specs.declared.Width.TheVariants.{Word, Double};
 
 // What is to be done. Refuse is for the task IDs that error 106 answers.
-#[derive(Clone, Copy)]
+#[derive(Clone, Copy, Debug, PartialEq, Eq)]
 pub enum Act {
     Nothing,
     Read,
@@ -17,7 +17,7 @@ pub enum Act {
 }
 
 // The width of the value that the task carries.
-#[derive(Clone, Copy)]
+#[derive(Clone, Copy, Debug, PartialEq, Eq)]
 pub enum Width {
     Either,
     Word,
@@ -26,7 +26,7 @@ pub enum Width {
 
 // What a task ID asks: the act, the width, whether the index names an element, and the reply ID. A read of a double replies
 // with the next ID.
-#[derive(Clone, Copy)]
+#[derive(Clone, Copy, Debug, PartialEq, Eq)]
 pub struct Task {
     pub act: Act,
     pub width: Width,
@@ -60,7 +60,7 @@ fn count_if(counts: bool) -> Act
     if counts { Act::Count } else { Act::Refuse }
 }
 
-// What the task ID asks; IDs over 15 do not occur and are refused like 15.
+// What the task ID asks; IDs over 15 do not occur and are refused like 15. Document 01 names the form: ranges.
 #[tactic(auto, unfolding(crate::specs::Task::task_of, crate::specs::Task::tasks))]
 pub fn task_of(id: u8) -> Task
     ensures { result ≡ task_of id }

@@ -14,7 +14,7 @@ pub fn count_digits(n: u32) -> usize
     let mut rest = n;
     let mut count = 1;
     while 10 <= rest {
-        rest = rest / 10;
+        rest /= 10;
         count += 1;
     }
     count
@@ -28,15 +28,15 @@ fn write_digits(out: &mut [u8], at: usize, n: u32) -> usize
     ensures out_after { out.new ≡ sets out.old at (digits n) }
 {
     if n < 10 {
-        out[at] = 48 + n as u8;
+        out[at] = b'0' + n as u8;
         return at + 1;
     }
     let p = write_digits(out, at, n / 10);
-    out[p] = 48 + (n % 10) as u8;
+    out[p] = b'0' + (n % 10) as u8;
     p + 1
 }
 
-// Writes n in decimal at `at` and returns the place after it; where it does not fit, writes nothing and returns `at`.
+// Writes n in decimal at `at` and returns the place after it; where it does not fit, writes nothing and returns `at`, as store::put does.
 #[tactic(auto, using(store::proofs::StoreLaws::put_fits, store::proofs::StoreLaws::put_not))]
 pub fn put_number(out: &mut [u8], at: usize, n: u32) -> usize
     ensures value { result ≡ (put_out out.old at (digits n)).place }

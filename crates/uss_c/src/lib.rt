@@ -2,11 +2,10 @@
 // that one promises. Crate uss_c_c exports them.
 #![tactic(auto)]
 
-ghost use Rattle.std.specs.Prelude.{◌≡◌, List, [], ◌∷◌, ℕ, length};
+ghost use Rattle.std.specs.Prelude.{◌≡◌, List, [], ◌∷◌, ℕ, length, Some, None};
 ghost use Rattle.bcc.specs.Bcc.{xor_all};
 ghost use Rattle.receiver.specs.Receive.{received_of, Leaves};
 ghost use Rattle.request.specs.declared.Request.TheVariants.{Task, Mirror, Broadcast};
-ghost use Rattle.opening.specs.Lent.{Unlisted, Listed};
 ghost use Rattle.slave.specs.Slave.{call_of};
 ghost use Rattle.master.specs.Build.{built_of};
 ghost use Rattle.reply.specs.Reply.{read_of};
@@ -61,7 +60,7 @@ pub fn uss_slave(
     received: &[u8],
     reply: &mut [u8],
 ) -> HostAnswer
-    ensures { SlaveLeaves (call_of (record { setup = setup; table = table.now; memory = record { values = values.entry.now }; list = Unlisted; control = control; status = status; received = received.now; buffer = reply.old })) result (record { values = values.exit.now }) reply.new }
+    ensures { SlaveLeaves (call_of (record { setup = setup; table = table.now; memory = record { values = values.old }; list = None; control = control; status = status; received = received.now; buffer = reply.old })) result (record { values = values.new }) reply.new }
 {
     host_slave::serve(setup, table, values, control, status, received, reply)
 }
@@ -76,7 +75,7 @@ pub fn uss_slave_listed(
     received: &[u8],
     reply: &mut [u8],
 ) -> HostAnswer
-    ensures { SlaveLeaves (call_of (record { setup = setup; table = table.now; memory = record { values = values.entry.now }; list = Listed places.now; control = control; status = status; received = received.now; buffer = reply.old })) result (record { values = values.exit.now }) reply.new }
+    ensures { SlaveLeaves (call_of (record { setup = setup; table = table.now; memory = record { values = values.old }; list = Some places.now; control = control; status = status; received = received.now; buffer = reply.old })) result (record { values = values.new }) reply.new }
 {
     host_slave::serve_listed(
         setup, table, values, places, control, status, received, reply,
@@ -153,7 +152,10 @@ pub fn uss_fill_places(table: &[u8], places: &mut [u16]) -> u32
     ensures value { result ≡ opened_number (filling_of table.now (length places.old)) }
     ensures places_after { places.new ≡ filled_by (filling_of table.now (length places.old)) table.now places.old }
 {
-    places::fill(table, places)
+    match places::fill(table, places) {
+        Ok(()) => 0,
+        Err(fault) => fault.into(),
+    }
 }
 
 pub fn uss_view_open(table: &[u8]) -> Cursor

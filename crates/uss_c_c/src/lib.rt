@@ -2,11 +2,10 @@
 // promises what that one promises.
 #![tactic(auto)]
 
-ghost use Rattle.std.specs.Prelude.{◌≡◌, List, [], ◌∷◌, ℕ, length};
+ghost use Rattle.std.specs.Prelude.{◌≡◌, List, [], ◌∷◌, ℕ, length, Some, None};
 ghost use Rattle.bcc.specs.Bcc.{xor_all};
 ghost use Rattle.receiver.specs.Receive.{received_of, Leaves};
 ghost use Rattle.request.specs.declared.Request.TheVariants.{Task, Mirror, Broadcast};
-ghost use Rattle.opening.specs.Lent.{Unlisted, Listed};
 ghost use Rattle.slave.specs.Slave.{call_of};
 ghost use Rattle.master.specs.Build.{built_of};
 ghost use Rattle.reply.specs.Reply.{read_of};
@@ -64,7 +63,7 @@ pub extern "C" fn uss_slave(
     received: &[u8],
     reply: &mut [u8],
 ) -> HostAnswer
-    ensures { SlaveLeaves (call_of (record { setup = setup; table = table.now; memory = record { values = values.entry.now }; list = Unlisted; control = control; status = status; received = received.now; buffer = reply.old })) result (record { values = values.exit.now }) reply.new }
+    ensures { SlaveLeaves (call_of (record { setup = setup; table = table.now; memory = record { values = values.old }; list = None; control = control; status = status; received = received.now; buffer = reply.old })) result (record { values = values.new }) reply.new }
 {
     uss_c::uss_slave(setup, table, values, control, status, received, reply)
 }
@@ -80,7 +79,7 @@ pub extern "C" fn uss_slave_listed(
     received: &[u8],
     reply: &mut [u8],
 ) -> HostAnswer
-    ensures { SlaveLeaves (call_of (record { setup = setup; table = table.now; memory = record { values = values.entry.now }; list = Listed places.now; control = control; status = status; received = received.now; buffer = reply.old })) result (record { values = values.exit.now }) reply.new }
+    ensures { SlaveLeaves (call_of (record { setup = setup; table = table.now; memory = record { values = values.old }; list = Some places.now; control = control; status = status; received = received.now; buffer = reply.old })) result (record { values = values.new }) reply.new }
 {
     uss_c::uss_slave_listed(
         setup, table, values, places, control, status, received, reply,

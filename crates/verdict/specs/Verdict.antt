@@ -5,10 +5,11 @@
 --     refuses_act act                     whether error 106 answers
 --     changes_act act, moves_value act    whether it is a change; whether it is a read or a change
 --     differs_width width double          whether a word task meets a double parameter or the reverse
+--     granted                             no error applies
 --     verdict_rows n k e index v          the errors' tests, in the document's order
 --     verdict_of n k e index v            granted, or the error
 --     element_of k e index                the element that the task means
-use Rattle.std.specs.Prelude.{ℕ, Bool, true, false, not, ◌&&◌, cond, List, [], ◌∷◌, eqb, ltb, leb}
+use Rattle.std.specs.Prelude.{ℕ, Bool, true, false, not, ◌&&◌, cond, List, [], ◌∷◌, eqb, ltb, leb, Result, Ok, Err}
 use Rattle.rows.specs.Rows.{first_of}
 use Rattle.entry.specs.declared.Entry.{Entry}
 use Rattle.limits.specs.Limits.{is_within}
@@ -18,8 +19,7 @@ use Rattle.task.specs.declared.Act.TheVariants.{Nothing, Read, Change, Count, Re
 use Rattle.task.specs.declared.Width.{Width}
 use Rattle.task.specs.declared.Width.TheVariants.{Either, Word, Double}
 use Rattle.errors.specs.declared.ParameterError.TheVariants.{NotWritable, OutsideLimits, NoElement, NoArray, OtherWidth, NoRoom, NoTask}
-use Rattle.verdict.specs.declared.Verdict.{Verdict}
-use Rattle.verdict.specs.declared.Verdict.TheVariants.{Granted, Denied}
+use Rattle.errors.specs.declared.ParameterError.{ParameterError}
 
 abbrev pub refuses_act : Act → Bool
 refuses_act Nothing = false
@@ -61,26 +61,30 @@ lacks_element k e index = k.array && (not (eqb e.elements 0) && leb e.elements i
 abbrev pub lacks_room : ℕ → Task → Entry → Bool
 lacks_room n k e = e.double && (eqb n 3 && moves_value k.act)
 
-abbrev pub verdict_rows : ℕ → Task → Entry → ℕ → ℕ → List (Bool × Verdict)
+-- no error applies
+abbrev pub granted : Result (Unit {0}) ParameterError
+granted = Ok tt
+
+abbrev pub verdict_rows : ℕ → Task → Entry → ℕ → ℕ → List (Bool × Result (Unit {0}) ParameterError)
 verdict_rows n k e index v =
     -- 106 per table
-    (refuses_act k.act, Denied NoTask)
+    (refuses_act k.act, Err NoTask)
     -- for tasks 1, 2, 3, 6, 7, 8, 11, 12, 13, 14, where the index names an element (W-203): 4 not an array and index over 1
-    ∷ (lacks_array k e index, Denied NoArray)
+    ∷ (lacks_array k e index, Err NoArray)
     -- 3 array and index not below its element count
-    ∷ (lacks_element k e index, Denied NoElement)
+    ∷ (lacks_element k e index, Err NoElement)
     -- for changes: 5 word task on a double parameter or the reverse
-    ∷ (changes_act k.act && differs_width k.width e.double, Denied OtherWidth)
+    ∷ (changes_act k.act && differs_width k.width e.double, Err OtherWidth)
     -- 102 double parameter in a three-word area, except task 9
-    ∷ (lacks_room n k e, Denied NoRoom)
+    ∷ (lacks_room n k e, Err NoRoom)
     -- for changes: 1 not writable
-    ∷ (changes_act k.act && not e.writable, Denied NotWritable)
+    ∷ (changes_act k.act && not e.writable, Err NotWritable)
     -- 2 outside limits
-    ∷ (changes_act k.act && not (is_within e v), Denied OutsideLimits)
+    ∷ (changes_act k.act && not (is_within e v), Err OutsideLimits)
     ∷ []
 
-unfoldable pub verdict_of : ℕ → Task → Entry → ℕ → ℕ → Verdict
-verdict_of n k e index v = first_of (verdict_rows n k e index v) Granted
+unfoldable pub verdict_of : ℕ → Task → Entry → ℕ → ℕ → Result (Unit {0}) ParameterError
+verdict_of n k e index v = first_of (verdict_rows n k e index v) granted
 
 -- a task whose index names an element means that element of an array; where there is no array, 0 and 1 both name its one value. A task
 -- that ignores the index uses no element: 0 (ours)

@@ -6,29 +6,11 @@ ghost use Rattle.std.specs.Prelude.{◌≡◌, false};
 ghost use Rattle.task.specs.Task.{task_row};
 ghost use Rattle.task.specs.declared.Act.TheVariants.{Read, Change};
 ghost use Rattle.task.specs.declared.Width.TheVariants.{Either};
-ghost use Rattle.verdict.specs.Verdict.{refuses_act, differs_width, verdict_of, element_of};
+ghost use Rattle.verdict.specs.Verdict.{differs_width, verdict_of, element_of};
 
 use entry::Entry;
 use errors::ParameterError;
 use task::{Act, Task, Width};
-
-#[derive(Clone, Copy)]
-pub enum Verdict {
-    Granted,
-    Denied(ParameterError),
-}
-
-fn refuses(act: Act) -> bool
-    ensures { result ≡ refuses_act act }
-{
-    match act {
-        Act::Nothing => false,
-        Act::Read => false,
-        Act::Change => false,
-        Act::Count => false,
-        Act::Refuse => true,
-    }
-}
 
 // A word task on a double parameter, or the reverse.
 fn differs(width: Width, double: bool) -> bool
@@ -43,67 +25,53 @@ fn differs(width: Width, double: bool) -> bool
 
 // The error of a read: 102.
 #[tactic(auto, unfolding(crate::specs::Verdict::verdict_of))]
-fn judge_read(n: u8, e: Entry) -> Verdict
+fn judge_read(n: u8, e: Entry) -> Result<(), ParameterError>
     ensures { result ≡ verdict_of n (task_row Read Either false 0) e 0 0 }
 {
-    if e.double {
-        if n == 3 {
-            return Verdict::Denied(ParameterError::NoRoom);
-        }
+    if e.double && n == 3 {
+        return Err(ParameterError::NoRoom);
     }
-    Verdict::Granted
+    Ok(())
 }
 
 // The first error of a change: 5, 102, 1, 2.
 #[tactic(auto, unfolding(crate::specs::Verdict::verdict_of))]
-fn judge_change(n: u8, width: Width, e: Entry, value: u32) -> Verdict
+fn judge_change(n: u8, width: Width, e: Entry, value: u32) -> Result<(), ParameterError>
     ensures { result ≡ verdict_of n (task_row Change width false 0) e 0 value }
 {
     if differs(width, e.double) {
-        return Verdict::Denied(ParameterError::OtherWidth);
+        return Err(ParameterError::OtherWidth);
     }
-    if e.double {
-        if n == 3 {
-            return Verdict::Denied(ParameterError::NoRoom);
-        }
-    }
+    judge_read(n, e)?;
     if !e.writable {
-        return Verdict::Denied(ParameterError::NotWritable);
+        return Err(ParameterError::NotWritable);
     }
     if !limits::within(e, value) {
-        return Verdict::Denied(ParameterError::OutsideLimits);
+        return Err(ParameterError::OutsideLimits);
     }
-    Verdict::Granted
+    Ok(())
 }
 
 // The first error that applies to a task with its index and the value that it carries, in an area of n words, on the parameter of a
 // record.
 #[tactic(auto, using(crate::proofs::VerdictLaws::verdict_read, crate::proofs::VerdictLaws::verdict_change, crate::proofs::VerdictLaws::verdict_none), unfolding(crate::specs::Verdict::verdict_of))]
-pub fn judge(n: u8, task: Task, e: Entry, index: u8, value: u32) -> Verdict
+pub fn judge(n: u8, task: Task, e: Entry, index: u8, value: u32) -> Result<(), ParameterError>
     ensures { result ≡ verdict_of n task e index value }
 {
-    let act = task.act;
-    let width = task.width;
-    if refuses(act) {
-        return Verdict::Denied(ParameterError::NoTask);
+    if matches!(task.act, Act::Refuse) {
+        return Err(ParameterError::NoTask);
     }
-    if task.array {
-        if e.elements == 0 {
-            if 1 < index {
-                return Verdict::Denied(ParameterError::NoArray);
-            }
-        } else {
-            if e.elements <= index {
-                return Verdict::Denied(ParameterError::NoElement);
-            }
-        }
+    if task.array && e.elements == 0 && 1 < index {
+        return Err(ParameterError::NoArray);
     }
-    match act {
-        Act::Nothing => Verdict::Granted,
+    if task.array && e.elements != 0 && e.elements <= index {
+        return Err(ParameterError::NoElement);
+    }
+    match task.act {
+        Act::Nothing | Act::Count => Ok(()),
         Act::Read => judge_read(n, e),
-        Act::Change => judge_change(n, width, e, value),
-        Act::Count => Verdict::Granted,
-        Act::Refuse => Verdict::Denied(ParameterError::NoTask),
+        Act::Change => judge_change(n, task.width, e, value),
+        Act::Refuse => Err(ParameterError::NoTask),
     }
 }
 
@@ -112,10 +80,9 @@ pub fn judge(n: u8, task: Task, e: Entry, index: u8, value: u32) -> Verdict
 pub fn pick_element(task: Task, e: Entry, index: u8) -> u8
     ensures { result ≡ element_of task e index }
 {
-    if task.array {
-        if e.elements != 0 {
-            return index;
-        }
+    if task.array && e.elements != 0 {
+        index
+    } else {
+        0
     }
-    0
 }

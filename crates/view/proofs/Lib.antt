@@ -1,3 +1,2 @@
--- Laws of a view and of its cursor.
+-- Laws of a view.
 pub mod ViewLaws
-pub mod CursorLaws

@@ -7,8 +7,8 @@ use Rattle.opening.proofs.RecordLaws.{fine_of}
 use Rattle.opening.proofs.PassLaws.{pass_from, entries_at, entry_in}
 use Rattle.opening.proofs.in_order.Given as goal
 
-abbrev pub invariant-loop-current : goal.invariant-loop-current
-invariant-loop-current l =
+abbrev pub invariant-loop-taken : goal.invariant-loop-taken
+invariant-loop-taken l =
     let e = entry_in l.current in
     record {
       whole : l.at % 12 ≡ 0;
@@ -18,5 +18,5 @@ invariant-loop-current l =
           ≡ (eqb (length l.t % 12) 0 && (fine_of e l.values l.place && pass_from l.values (entries_at l.t (l.at + 12)) (e.number + 1) (l.place + count_of e)));
     }
 
-abbrev pub decreases-loop-current : goal.decreases-loop-current
-decreases-loop-current l = length l.t - l.at
+abbrev pub decreases-loop-taken : goal.decreases-loop-taken
+decreases-loop-taken l = length l.t - l.at

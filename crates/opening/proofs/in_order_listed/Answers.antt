@@ -61,7 +61,7 @@ returns-then-t-n c =
     refuted _ (λ h. let n = (listed_length c.args.t.now c.args.values.now c.args.places.now h).0 in omega arith)
 
 pub returns-then-n-eq0 : goal.returns-then-n-eq0
-returns-then-n-eq0 c = sym (listed_none c.args.t.now c.args.values.now c.args.places.now (omega arith) c.if-n-eq0.true)
+returns-then-n-eq0 c = c.is_empty.ensures ∙ sym (listed_none c.args.t.now c.args.values.now c.args.places.now (omega arith) c.if-n-eq0.true)
 
 pub loop-k-init : goal.loop-k-init
 loop-k-init c =
@@ -86,7 +86,7 @@ returns-then-current-most c =
     let l = c.loop-k in
     let k = l.k + 1 in
     let next = c.record_of-current-in-loop-k in
-    let taken = c.count_places-taken.ensures ∙ ap count_of c.entry_of.ensures in
+    let taken = c.count_places-count.ensures ∙ ap count_of c.entry_of.ensures in
     let is = ap entry_in next.ensures ∙ entry_part t k (12 * k + 12 - 12 * k) (omega arith) (omega arith) in
     let more = on t vs ps l.k l.place l.current l.invariant.in_range l.invariant.left _ c.if-places-k.false (sym c.if-not-record_holds.ensures) taken next.result c.if-n-k.false is in
     let low : (entry_in next.result).number < (entry_in l.current).number + 1 = omega (arith, number_in next.result, number_in l.current) in
@@ -100,7 +100,7 @@ loop-k-preserved c =
     let l = c.loop-k in
     let k = l.k + 1 in
     let next = c.record_of-current-in-loop-k in
-    let taken = c.count_places-taken.ensures ∙ ap count_of c.entry_of.ensures in
+    let taken = c.count_places-count.ensures ∙ ap count_of c.entry_of.ensures in
     let is = ap entry_in next.ensures ∙ entry_part t k (12 * k + 12 - 12 * k) (omega arith) (omega arith) in
     let more = on t vs ps l.k l.place l.current l.invariant.in_range l.invariant.left _ c.if-places-k.false (sym c.if-not-record_holds.ensures) taken next.result c.if-n-k.false is in
     let up : (entry_in l.current).number + 1 ≤ (entry_in next.result).number = omega (arith, number_in next.result, number_in l.current) in
@@ -114,6 +114,6 @@ pub returns : goal.returns
 returns c =
     let vs = c.args.values.now in
     let l = c.loop-k in
-    let taken = c.count_places-taken.ensures ∙ ap count_of c.entry_of.ensures in
+    let taken = c.count_places-count.ensures ∙ ap count_of c.entry_of.ensures in
     let all = ended c.args.t.now vs c.args.places.now l.k l.place l.current l.invariant.in_range l.invariant.left _ c.if-places-k.false (sym c.if-not-record_holds.ensures) taken c.if-n-k.true in
     c.ends_well.ensures ∙ sym (all ∙ rw (pass_end _ _ vs, number_in l.current))

@@ -11,7 +11,7 @@ returns-then-raw-eq0 c =
     let low = low_bits c.args.raw e c.entry_of-e.ensures in
     let none : e.elements ≡ 0 = omega arith in
     let clear : e.spare ≡ 0 = omega arith in
-    rw (← c.entry_of-e.ensures) (fine_run e c.args.values.now c.args.place 1 _ (count_none e none) (plain_limits e (omega arith) clear) c.value_holds.ensures).0
+    rw (← c.entry_of-e.ensures) (fine_run e c.args.values.now c.args.place 1 _ (count_none e none) (plain_limits e (omega arith) clear) c.value_holds.ensures)
 
 pub run_holds-requires : goal.run_holds-requires
 run_holds-requires c =

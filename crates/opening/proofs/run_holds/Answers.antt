@@ -1,5 +1,5 @@
 -- `opening::run_holds` meets its contract. Assumes nothing.
-use Rattle.std.proofs.Common.{Bool, ◌&&◌, ◌+◌, length, ap, ◌∙◌, arith}
+use Rattle.std.proofs.Common.{Bool, ◌&&◌, ◌+◌, length, refl, ap, ◌∙◌, arith}
 use borrow.Author.Tests.{le-leb}
 use Rattle.limits.specs.Limits.{limits_ok}
 use Rattle.opening.specs.Rules.{run_ok}
@@ -11,8 +11,8 @@ loop-i-preserved c =
     let a = c.args in
     record {
       in_range = omega arith;
-      left = c.loop-i.invariant.left ∙ run_on a.e a.values.now a.n a.place c.loop-i.i c.loop-i.all _ _ c.loop-i-test.true c.holds.ensures c.hold_both-all.ensures;
-      shown = λ h. value_shows c.loop-i.all (limits_ok a.e) _ _ _ c.holds.ensures c.hold_both-all.ensures;
+      left = c.loop-i.invariant.left ∙ run_on a.e a.values.now a.n a.place c.loop-i.i c.loop-i.all _ _ c.loop-i-test.true c.holds-all.ensures refl;
+      shown = λ h. value_shows c.loop-i.all (limits_ok a.e) _ _ _ c.holds-all.ensures refl;
     }
 
 pub returns : goal.returns

@@ -1,10 +1,8 @@
 -- `places::fill` meets its contract. Assumes nothing.
-use Rattle.std.proofs.Common.{◌≡◌, ℕ, ◌+◌, ◌-◌, ◌*◌, ◌/◌, ◌<◌, List, length, take, drop, refl, sym, ap, ◌∙◌, arith}
+use Rattle.std.proofs.Common.{◌≡◌, ℕ, ◌+◌, ◌-◌, ◌*◌, ◌/◌, ◌<◌, List, length, refl, sym, ap, ◌∙◌, arith}
 use Rattle.std.proofs.Math.Seq.{ext_get_or}
-use Rattle.entry.specs.declared.Entry.{Entry}
-use Rattle.entry.specs.Fields.{entry_of, count_of}
-use Rattle.table.specs.declared.Record.{Record}
-use Rattle.table.specs.Records.{record_of, entry_at, entries_from, counts_of, first_place, places_of}
+use Rattle.entry.specs.Fields.{count_of}
+use Rattle.table.specs.Records.{entries_from, counts_of, first_place, places_of}
 use Rattle.table.proofs.RecordsLaws.{entry_part}
 use Rattle.table.proofs.PlacesLaws.{places_length, place_next}
 use Rattle.places.proofs.FillLaws.{fill_passed, filled_more}
@@ -15,11 +13,6 @@ firstly : (t : List ℕ) → 0 ≡ first_place t 0
 unfolding entries_from counts_of
 firstly t = refl
 
--- the places of the record that was read
-counted : (t : List ℕ) (k m n : ℕ) (r : Record) (e : Entry) → k < length t / 12 → m ≡ 12 → r ≡ record_of (take m (drop (12 * k) t))
-    → e ≡ entry_of r.head r.minimum r.maximum → n ≡ count_of e → n ≡ count_of (entry_at t k)
-counted t k m n r e there twelve p q h = h ∙ ap count_of (q ∙ rw p (entry_part t k m (omega arith) twelve))
-
 pub loop-k-init : goal.loop-k-init
 loop-k-init c = record { next = firstly _; filled = λ i h. absurd (omega arith) }
 
@@ -29,7 +22,7 @@ loop-k-preserved c =
     let l = c.loop-k in
     let k = l.k in
     let there : k < length t / 12 = omega arith in
-    let count = counted t k (12 * k + 12 - 12 * k) _ c.record_of-raw.result _ there (omega arith) c.record_of-raw.ensures c.entry_of.ensures c.count_places-place.ensures in
+    let count = c.count_places-place.ensures ∙ ap count_of (c.entry_in-e.ensures ∙ entry_part t k (12 * k + 12 - 12 * k) (omega arith) (omega arith)) in
     record {
       next = rw (l.invariant.next, count) (sym (place_next t k));
       filled = filled_more t l.places k l.place (omega arith) there l.invariant.next l.invariant.filled;

@@ -8,10 +8,7 @@ use Rattle.receiver.proofs.open_bytes.Goals as goal
 pub loop-i-preserved : goal.loop-i-preserved
 loop-i-preserved c =
     let l = c.loop-i in
-    let did = c.step-moved.ensures in
+    let did = c.step-state.ensures in
     let early = step_early l.state _ l.page (omega arith) in
-    record {
-      within = omega arith;
-      same = l.invariant.same
-          ∙ call_on _ _ c.args.bytes.now _ (omega arith) _ (as_step _ _ _ _ _ did.value did.page_after) (ap (λ (m : Move). m.length) did.value ∙ early);
-    }
+    l.invariant
+    ∙ call_on _ _ c.args.bytes.now _ (omega arith) _ (as_step _ _ _ _ _ did.value did.page_after) (ap (λ (m : Move). m.length) did.value ∙ early)

@@ -9,12 +9,6 @@ returns-then-state-eq0 c =
     settled_leaves a.receiver.state a.bytes.now a.page.now c.settle-state.ensures
     (rw (c.end.ensures, c.if-state-eq0.true) (leaves (skip_all (length a.bytes.now) 0 a.bytes.now a.page.now (omega arith) (λ i. (c.type_inv.bytes i).fits) ∙ call_waits _ _ a.bytes.now _ (omega arith))))
 
-pub returns-then-bytes-eq0 : goal.returns-then-bytes-eq0
-returns-then-bytes-eq0 c =
-    let a = c.args in
-    settled_leaves a.receiver.state a.bytes.now a.page.now c.settle-state.ensures
-    (rw c.end-then-bytes-eq0.ensures (leaves (call_waits _ 0 a.bytes.now a.page.now (omega arith))))
-
 pub returns-then-bytes-eq1 : goal.returns-then-bytes-eq1
 returns-then-bytes-eq1 c =
     let a = c.args in

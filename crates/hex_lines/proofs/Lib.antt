@@ -1,0 +1,2 @@
+-- Laws of the lines of a text and of the bytes of a line.
+pub mod HexLaws

@@ -1,0 +1,2 @@
+-- What a reading that is refused holds.
+pub mod RefusalLaws
