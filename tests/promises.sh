@@ -1,10 +1,10 @@
 #!/usr/bin/env bash
 # Compares the pages with the sources. docs/PROMISES.md: no public function has a `requires`; every one has a row, a method under its
 # type and a conversion `From` under its types, with at least two must-fail edits of its own crate (a function of uss_c, which hands on
-# to another, and a conversion at least one) and its own instances of claims_results, one for the result and one for each slice lent for
-# writing; the exports of uss_c_c are the functions of uss_c, with the same parameters and promises, and each calls the one of its name;
-# every row names a function, and every edit of the repository is named on the page, says in its second line at which fact it fails, and
-# changes no proof. docs/PROTOCOL.md,
+# to another, at least one) and its own instances of claims_results, one for the result and one for each slice lent for writing; the
+# exports of uss_c_c are the functions of uss_c, with the same parameters and promises, and each calls the one of its name; every row
+# names a function, and every edit of the repository is named on the page, says in its second line at which fact it fails, and changes no
+# proof. docs/PROTOCOL.md,
 # docs/PROMISES.md, docs/DECISIONS.md, docs/DAMAGE.md, docs/HOUSE.md, docs/TABLES.md and CONTRIBUTING.md: each name that is given with
 # its crate and file stands there. Every page: a link leads to a file of the repository, and to a heading of it where it names one;
 # "docs/PROTOCOL.md, Section" names a section of it. Exits 1 where one of these does not hold.
@@ -44,7 +44,7 @@ functions="$(for source in crates/*/src/*.rt; do
         /^impl From</ {
             from = $0; sub(/^impl From</, "", from); sub(/>.*/, "", from)
             to = $0; sub(/.*> for /, "", to); sub(/ .*/, "", to)
-            print crate "::" toupper(substr(to, 1, 1)) substr(to, 2) "From" from "::from", 1
+            print crate "::" toupper(substr(to, 1, 1)) substr(to, 2) "From" from "::from", 2
         }
         /^impl/ { type = $0; sub(/^impl(<[^>]*>)? /, "", type); sub(/[^A-Za-z0-9].*/, "::", type) }
         /^}/ { type = "" }

@@ -125,7 +125,9 @@ NUMBER = r"-?\b\d+(?:\.\d+e[+-]\d+)?\b"
 MEMMOVE = "llvm.memmove.p0.p0.i64"
 MEMSET = "llvm.memset.p0.i64"
 FENCE = "llvm.arithmetic.fence.f64"  # keeps a double from being reckoned in another order, which no flag here allows
-HEAD = re.compile(r'define (internal )?(?:noundef |zeroext )*(.+?) @("[^"]+"|\w+)\((.*)\) #0 \{')
+HEAD = re.compile(r'define (internal )?(?:noundef |zeroext )*(.+?) @("[^"]+"|\w+)\((.*)\) (?:alwaysinline )?#0 \{')
+# the attributes of a function that is compiled into its callers: those of #0 and one word
+INLINED = re.compile(r'attributes #(\d+) = \{ alwaysinline (nounwind "probe-stack"="inline-asm" "stack-probe-size"="\d+" "target-cpu"="x86-64") \}')
 TAIL = [  # all that may stand outside functions
     r"; ModuleID = .*",
     r'source_filename = "rattle"',
@@ -175,10 +177,25 @@ def read_body(name, lines):
             raise Refused(f"the module's {name} sets bytes in a way that is not understood: {text.strip()}")
 
 
+def by_word(lines):
+    """The lines with `alwaysinline` as a word of the functions that have it, and the groups of attributes numbered without that one."""
+    found = next(filter(None, map(INLINED.fullmatch, lines)), None)
+    if found is None or f"attributes #0 = {{ {found[2]} }}" not in lines:
+        return lines
+    group = int(found[1])
+
+    def renumbered(match):
+        number = int(match[1])
+        return "alwaysinline #0" if number == group else f"#{number - (number > group)}"
+
+    kept = [line for line in lines if not INLINED.fullmatch(line)]
+    return [re.sub(r"#(\d+)(?=$| \{| =)", renumbered, line) if line.startswith(("define ", "declare ", "attributes ")) else line for line in kept]
+
+
 def read(path):
     functions, tail = {}, []
     with open(path) as file:
-        lines = file.read().split("\n")
+        lines = by_word(file.read().split("\n"))
     at = 0
     while at < len(lines):
         line = lines[at]

@@ -2,7 +2,7 @@
 #![tactic(auto)]
 
 ghost use Rattle.std.specs.Prelude.{◌≡◌};
-ghost use Rattle.build_answers.specs.BuildNumbers.{build_number};
+ghost use Rattle.build_answers.specs.BuildNumbers.{build_number, built_number};
 
 // Why no telegram is built, by the document's numbers.
 #[derive(Clone, Copy, Debug, PartialEq, Eq)]
@@ -18,5 +18,15 @@ impl From<BuildFault> for u32 {
 
     fn from(fault: BuildFault) -> u32 {
         fault as u32
+    }
+}
+
+// The document's number of a build's answer: 0 where a telegram is built, else that of the refusal.
+pub fn number_built(built: Result<usize, BuildFault>) -> u32
+    ensures { result ≡ built_number built }
+{
+    match built {
+        Ok(_) => 0,
+        Err(fault) => fault.into(),
     }
 }

@@ -26,6 +26,7 @@ use Rattle.slave_answers.proofs.RefusalFromFault.from.Reads as slave-answers-ref
 use Rattle.slave_answers.proofs.U32FromRefusal.from.Reads as slave-answers-number-of-refusal
 use Rattle.slave_answers.proofs.U32FromAnswer.from.Reads as slave-answers-number-of-answer
 use Rattle.build_answers.proofs.U32FromBuildFault.from.Reads as build-answers-number-of-build-fault
+use Rattle.build_answers.proofs.number_built.Reads as build-answers-number-built
 use Rattle.read_answers.proofs.ReadFaultFromFault.from.Reads as read-answers-read-fault-from-fault
 use Rattle.read_answers.proofs.U32FromReadFault.from.Reads as read-answers-number-of-read-fault
 use Rattle.read_answers.proofs.Content.id.Reads as read-answers-content-id
@@ -48,6 +49,7 @@ use Rattle.table_check.proofs.is_table.Reads as table-check-is-table
 use Rattle.table_check.proofs.OpeningFaultFromRule.from.Reads as table-check-opening-fault-from-rule
 use Rattle.table_check.proofs.U32FromRule.from.Reads as table-check-number-of-rule
 use Rattle.places.proofs.fill.Reads as places-fill
+use Rattle.places.proofs.fill_numbered.Reads as places-fill-numbered
 use Rattle.view.proofs.first.Reads as view-first
 use Rattle.view.proofs.look.Reads as view-look
 use Rattle.view.proofs.next.Reads as view-next
@@ -83,6 +85,8 @@ use Rattle.master.proofs.build_broadcast.Reads as master-build-broadcast
 use Rattle.content.proofs.is_bad.Reads as content-is-bad
 use Rattle.content.proofs.read_content.Reads as content-read-content
 use Rattle.reply.proofs.read.Reads as reply-read
+use Rattle.reply.proofs.process_of.Reads as reply-process-of
+use Rattle.reply.proofs.process_of.Reads as reply-process-of
 use Rattle.host_slave.proofs.serve.Reads as host-slave-serve
 use Rattle.host_slave.proofs.serve_listed.Reads as host-slave-serve-listed
 use Rattle.host_master.proofs.build_task.Reads as host-master-build-task
@@ -169,6 +173,9 @@ slave_answers_number_of_answer_one κs a r r' s s' = equal_through
 pub build_answers_number_of_build_fault_one : OneResult build-answers-number-of-build-fault.Post
 build_answers_number_of_build_fault_one κs a r r' s s' = equal_through
 
+pub build_answers_number_built_one : OneResult build-answers-number-built.Post
+build_answers_number_built_one κs a r r' s s' = equal_through
+
 pub read_answers_read_fault_from_fault_one : OneResult read-answers-read-fault-from-fault.Post
 read_answers_read_fault_from_fault_one κs a r r' s s' = equal_through
 
@@ -237,6 +244,12 @@ places_fill_one κs a r r' s s' p p' = equal_through p.0 p'.0
 
 pub places_fill_places : OneExit places-fill.Post (λ κs s. s.1.0.now)
 places_fill_places κs a r r' s s' p p' = equal_through p.1 p'.1
+
+pub places_fill_numbered_one : OneResult places-fill-numbered.Post
+places_fill_numbered_one κs a r r' s s' p p' = equal_through p.0 p'.0
+
+pub places_fill_numbered_places : OneExit places-fill-numbered.Post (λ κs s. s.1.0.now)
+places_fill_numbered_places κs a r r' s s' p p' = equal_through p.1 p'.1
 
 pub view_first_one : OneResult view-first.Post
 view_first_one κs a r r' s s' = equal_through
@@ -330,6 +343,9 @@ content_read_content_one κs a r r' s s' = equal_through
 
 pub reply_read_one : OneResult reply-read.Post
 reply_read_one κs a r r' s s' = equal_through
+
+pub reply_process_of_one : OneResult reply-process-of.Post
+reply_process_of_one κs a r r' s s' = equal_through
 
 pub host_reply_read_reply_one : OneResult host-reply-read-reply.Post
 host_reply_read_reply_one κs a r r' s s' = equal_through

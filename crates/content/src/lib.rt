@@ -59,8 +59,8 @@ pub fn is_bad(n: u8, asked: Question, area: Area) -> bool
 {
     let reply_id = (area.pke / 4096) as u8;
     let double = is_double(reply_id);
-    !is_known(asked.id, reply_id)
-        || is_filled(asked.id, area)
+    is_filled(asked.id, area)
+        || !is_known(asked.id, reply_id)
         || double && n == 3
         || area.pke % 2048 != asked.number % 2000
         || area.ind / 4096 != page::nibble_of(asked.number) as u16

@@ -6,7 +6,7 @@ ghost use Rattle.request.specs.declared.Request.TheVariants.{Task, Mirror, Broad
 ghost use Rattle.master.specs.Build.{built_of};
 ghost use Rattle.host_master.specs.Host.{host_built, BuildLeaves};
 
-use build_answers::BuildFault;
+use build_answers::{BuildFault, number_built};
 use setup::Setup;
 use words::Words;
 
@@ -22,15 +22,13 @@ fn give_built(built: Result<usize, BuildFault>) -> HostBuilt
     requires { IfOk built (λ length. length ≤ 256) }
     ensures { result ≡ host_built built }
 {
+    let number = number_built(built);
     match built {
         Ok(length) => HostBuilt {
-            number: 0,
+            number,
             length: length as u32,
         },
-        Err(fault) => HostBuilt {
-            number: fault.into(),
-            length: 0,
-        },
+        Err(_) => HostBuilt { number, length: 0 },
     }
 }
 

@@ -47,6 +47,14 @@ pub record Buildable (s : Setup) (r : Request) (net out : List ℕ) : Type 0 whe
   pub passed : Admitted s (expressible s r net) (length out)
   pub is : built_of s r net out ≡ sent (telegram_for s r net) out
 
+-- the outcome's answer is that of the tests: no refusal where they refuse nothing, else the same refusal
+pub outcome_answer : (a : Result (Unit {0}) BuildFault) (telegram out : List ℕ) → is_ok (outcome_of a telegram out).built ≡ is_ok a
+outcome_answer (Ok done) telegram out = refl
+outcome_answer (Err fault) telegram out = refl
+
+pub outcome_refused : (fault : BuildFault) (telegram out : List ℕ) → (outcome_of (Err fault) telegram out).built ≡ Err fault
+outcome_refused fault telegram out = refl
+
 outcome_fit : (a : Result (Unit {0}) BuildFault) (telegram out : List ℕ) → is_ok (outcome_of a telegram out).built ≡ true → a ≡ fit
 outcome_fit (Ok done) telegram out h = refl
 outcome_fit (Err fault) telegram out h = absurd (false≢true h)

@@ -30,7 +30,8 @@ fn admit(setup: Setup, askable: bool, room: usize) -> Result<(), BuildFault>
     Ok(())
 }
 
-// Writes the telegram of a request. What the tests of `admit` let pass is always written, so the 0 never comes.
+// Writes the telegram of a request. What the tests of `admit` let pass is always written, so the 0 never comes. Compiled in, as `build` is.
+#[inline(always)]
 fn write(setup: Setup, request: Request, net: &[u8], out: &mut [u8]) -> usize
     requires { (setup_ok setup ≡ true) × (expressible setup request net.now ≡ true) × (256 ≤ length out.old) }
     ensures { Sends (telegram_for setup request net.now) out.old result out.new }
@@ -77,7 +78,9 @@ fn write(setup: Setup, request: Request, net: &[u8], out: &mut [u8]) -> usize
     }
 }
 
-// The build of a request's telegram: it is written where the tests of `admit` refuse nothing.
+// The build of a request's telegram: it is written where the tests of `admit` refuse nothing. It is compiled into each of the three builds
+// below, where the kind of request is known: as one function that takes any request a build takes half as many instructions again.
+#[inline(always)]
 fn build(setup: Setup, request: Request, net: &[u8], out: &mut [u8]) -> Result<usize, BuildFault>
     ensures { Builds (built_of setup request net.now out.old) result out.new }
 {

@@ -1,10 +1,10 @@
 -- One record and its values, as the code looks at them. Assumes nothing.
 use Prim.Native.Nat.{ℕ, suc, ◌+◌, ◌-◌, ◌/◌, ◌%◌, ◌<◌, ◌≤◌}
-use mathlib.Core.Path.{◌≡◌, refl, ◌∙◌}
+use mathlib.Core.Path.{◌≡◌, refl, sym, ◌∙◌}
 use mathlib.Core.List.{List}
-use mathlib.Core.Bool.{Bool, true, false, ◌&&◌, and-true}
+use mathlib.Core.Bool.{Bool, true, false, cond, ◌&&◌, and-true}
 use native.Mathlib.Omega.{arith}
-use borrow.Author.Tests.{le-leb, eq-eqb}
+use borrow.Author.Tests.{le-leb, eq-eqb, eqb-true}
 use lib.ListN.{length, get_or}
 use lib.Dec.{eqb, leb}
 use Rattle.std.specs.Prelude.{Some}
@@ -57,6 +57,15 @@ run_one e vs place r h q = rw (q, le-leb (place + 1) (length vs) (omega arith), 
 pub low_bits : (r : Record) (e : Entry) → e ≡ entry_of r.head r.minimum r.maximum → (e.elements ≡ r.head / 64 % 256) × (e.spare ≡ r.head % 64)
 unfolding entry_of
 low_bits r e q = rw q (refl, refl)
+
+-- the places of a record tell whether its elements are too many
+pub few_counted : (e : Entry) → leb (count_of e) 254 ≡ leb e.elements 254
+unfolding count_of
+few_counted e = go (eqb e.elements 0) refl
+  where
+    go : (b : Bool) → eqb e.elements 0 ≡ b → leb (cond b 1 e.elements) 254 ≡ leb e.elements 254
+    go true q = sym (le-leb e.elements 254 (omega (arith, eqb-true _ _ q)))
+    go false q = refl
 
 -- the rules that a record can break by itself, but for that of its number
 abbrev pub plain_ok : Entry → Bool

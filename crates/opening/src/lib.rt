@@ -85,6 +85,8 @@ fn check_record(raw: Record, values: &[u32], place: usize) -> Option<usize>
 }
 
 // Whether check_record finds places, of a record whose places are already counted; why it stands beside it is told at in_order_listed.
+// The places tell of an array whether its elements are too many: they are there already, and the elements are not.
+#[tactic(auto, using(crate::proofs::RecordLaws::few_counted))]
 fn record_holds(raw: Record, values: &[u32], n: usize, place: usize) -> bool
     requires { (place ≤ 1000000) × (n ≡ count_of (entry_of raw.head raw.minimum raw.maximum)) }
     ensures { let e = entry_of raw.head raw.minimum raw.maximum in result ≡ (leb e.elements 254 && eqb e.spare 0 && limits_ok e && leb (place + count_of e) (length values.now) && run_ok e values.now (count_of e) place) }
@@ -93,7 +95,7 @@ fn record_holds(raw: Record, values: &[u32], n: usize, place: usize) -> bool
     if raw.head % 16384 == 0 {
         return value_holds(e, values, place);
     }
-    e.spare == 0 && e.elements <= 254 && run_holds(e, values, n, place)
+    e.spare == 0 && n <= 254 && run_holds(e, values, n, place)
 }
 
 // ---- the table, its values and its list

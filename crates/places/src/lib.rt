@@ -2,6 +2,7 @@
 #![tactic(auto)]
 
 ghost use Rattle.std.specs.Prelude.{◌≡◌, length};
+ghost use Rattle.opening.specs.Answers.{opened_number};
 ghost use Rattle.places.specs.Fill.{filling_of, filled_by};
 
 use slave_answers::OpeningFault;
@@ -27,4 +28,15 @@ pub fn fill(table: &[u8], places: &mut [u16]) -> Result<(), OpeningFault>
         place += entry::count_places(e);
     }
     Ok(())
+}
+
+// The same, with the document's number: 0 where the list is written, else that of the refusal.
+pub fn fill_numbered(table: &[u8], places: &mut [u16]) -> u32
+    ensures value { result ≡ opened_number (filling_of table.now (length places.old)) }
+    ensures places_after { places.new ≡ filled_by (filling_of table.now (length places.old)) table.now places.old }
+{
+    match fill(table, places) {
+        Ok(()) => 0,
+        Err(fault) => fault.into(),
+    }
 }

@@ -212,8 +212,25 @@ fn open_bytes(settled: u32, bytes: &[u8], page: &mut [u8]) -> Passed
     }
 }
 
-// The same for bytes alone, a call of its own for C. No pause comes between them, so that a telegram is opened once; what both do is `run`.
-// Disarmed, all are ignored.
+// The bytes from a place on, one by one, until a telegram is whole or none is left. `run` passes before each item: where someone else wrote
+// to the page nothing can be passed, and every byte would be looked at twice.
+fn run_bytes(begun: u32, bytes: &[u8], from: usize, page: &mut [u8]) -> Received
+    requires { from ≤ length bytes.now }
+    ensures { Leaves (call_from from begun bytes.now page.old) result page.new }
+{
+    let mut state = begun;
+    for i in from..bytes.len() {
+        let moved = step::step(state, bytes[i] as u16, page);
+        state = moved.state;
+        if moved.length != 0 {
+            return end(i + 1, state, moved.length);
+        }
+    }
+    end(bytes.len(), state, 0)
+}
+
+// The same for bytes alone, a call of its own for C. No pause comes between them, so that a telegram is opened and goes on once: what is
+// left then is its last byte, or nothing; or all of them, where someone else wrote to the page. Disarmed, all are ignored.
 pub fn receive_bytes(receiver: Receiver, bytes: &[u8], page: &mut [u8]) -> Received
     ensures { Leaves (received_of receiver.state bytes.now page.old) result page.new }
 {
@@ -226,7 +243,8 @@ pub fn receive_bytes(receiver: Receiver, bytes: &[u8], page: &mut [u8]) -> Recei
         return end(1, moved.state, moved.length);
     }
     let opened = open_bytes(state, bytes, page);
-    run(opened.state, bytes, opened.place, page)
+    let passed = pass(opened.state, bytes, opened.place, page);
+    run_bytes(passed.state, bytes, passed.place, page)
 }
 
 // One pause, as a timer has it: it arms, from any state, and no page is looked at.

@@ -2,7 +2,7 @@
 #![tactic(auto)]
 
 ghost use Rattle.std.specs.Prelude.{◌≡◌};
-ghost use Rattle.reply.specs.Reply.{read_normal, read_task, read_of};
+ghost use Rattle.reply.specs.Reply.{read_process, read_normal, read_task, read_of};
 
 use address::{Fault, Telegram};
 use content::Question;
@@ -81,4 +81,14 @@ pub fn read(setup: Setup, request: Request, received: &[u8]) -> Result<Reading, 
         return Err(ReadFault::NotAsked);
     }
     read_task(setup, Question { id, number, index }, received)
+}
+
+// The process words of a reading, all 0 in a refusal.
+pub fn process_of(read: Result<Reading, ReadFault>) -> Words
+    ensures { result ≡ read_process read }
+{
+    match read {
+        Ok(reading) => reading.process,
+        Err(_) => Words::default(),
+    }
 }

@@ -29,15 +29,13 @@ pub enum Request {
     },
 }
 
-// Whether the words past the first pzd are 0.
+// Whether the words past the first pzd are 0, from the last one back: most set-ups are told by one or two of them.
 #[tactic(auto, unfolding(crate::specs::Request::unused_zero))]
 fn leaves_zero(pzd: u8, w: Words) -> bool
     ensures { result ≡ unused_zero pzd w }
 {
-    (0 < pzd || w.w1 == 0)
-        && (1 < pzd || w.w2 == 0)
-        && (2 < pzd || w.w3 == 0)
-        && (3 < pzd || w.w4 == 0)
+    3 < pzd
+        || w.w4 == 0 && (2 < pzd || w.w3 == 0 && (1 < pzd || w.w2 == 0 && (0 < pzd || w.w1 == 0)))
 }
 
 // Whether an act of this width can carry the value in an area of pkw words.
@@ -45,24 +43,30 @@ fn leaves_zero(pzd: u8, w: Words) -> bool
 fn fits_value(act: Act, width: Width, pkw: u8, value: u32) -> bool
     ensures { result ≡ value_fits act width pkw value }
 {
-    match (act, width) {
-        (Act::Read | Act::Count, _) => value == 0,
-        (Act::Change, Width::Word) => value <= 65535,
-        (Act::Change, Width::Double) => pkw != 3,
-        _ => false,
+    match act {
+        Act::Read | Act::Count => value == 0,
+        Act::Change => match width {
+            Width::Either => false,
+            Width::Word => value <= 65535,
+            Width::Double => pkw != 3,
+        },
+        Act::Nothing | Act::Refuse => false,
     }
 }
 
 // Whether a task can be asked in an area of pkw words.
-#[tactic(auto, using(crate::proofs::RequestLaws::known_fits), unfolding(crate::specs::Request::task_fits))]
+#[tactic(auto, unfolding(crate::specs::Request::task_fits))]
 fn fits_task(pkw: u8, id: u8, number: u16, index: u8, value: u32) -> bool
     ensures { result ≡ task_fits pkw id number index value }
 {
     if id == 0 {
         return number == 0 && index == 0 && value == 0;
     }
+    if pkw == 0 || 31999 < number || 254 < index {
+        return false;
+    }
     let task = task::task_of(id);
-    pkw != 0 && number <= 31999 && index <= 254 && fits_value(task.act, task.width, pkw, value)
+    fits_value(task.act, task.width, pkw, value)
 }
 
 // Whether a task request can be asked.

@@ -50,11 +50,8 @@ fn put_number(n: u64) {
 
 // 0 and the length of a telegram that is built, or the refusal's number and 0.
 fn show(built: Result<usize, BuildFault>, out: &[u8]) {
-    let (number, length): (u32, usize) = match built {
-        Ok(length) => (0, length),
-        Err(fault) => (fault.into(), 0),
-    };
-    put_number(number as u64);
+    let length = built.unwrap_or(0);
+    put_number(build_answers::number_built(built) as u64);
     put_number(length as u64);
     for &byte in out.iter().take(length) {
         io::print_hex(1, byte as u64, 2);

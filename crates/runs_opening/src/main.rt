@@ -15,14 +15,17 @@ const USUAL: Setup = Setup {
     pzd: 2,
 };
 
-// The number of a check or of a filling: 0 where it refuses nothing.
-fn show(answer: Result<(), OpeningFault>) {
-    let number: u32 = match answer {
-        Ok(()) => 0,
-        Err(fault) => fault.into(),
-    };
+fn put_number(number: u32) {
     io::write_all(1, b" ");
     io::print_decimal(1, number as u64);
+}
+
+// The number of a check: 0 where it refuses nothing.
+fn show(answer: Result<(), OpeningFault>) {
+    put_number(match answer {
+        Ok(()) => 0,
+        Err(fault) => fault.into(),
+    });
 }
 
 // ---- tables
@@ -130,7 +133,7 @@ fn lend(t: &[u8], values: &[u32], list: &[u16]) {
 
 // A list filled from a table, then lent; then again with one entry one over: the filling's number, and the opening check's.
 fn fill_list(t: &[u8], values: &[u32], list: &mut [u16], wrong: usize) {
-    show(places::fill(t, list));
+    put_number(places::fill_numbered(t, list));
     lend(t, values, list);
     if wrong < list.len() {
         list[wrong] = list[wrong] % 65535 + 1;

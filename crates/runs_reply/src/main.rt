@@ -92,12 +92,11 @@ fn run_line(line: &[u8]) {
 
 // 0 and the process words of what is read, or the refusal's number and words 0.
 fn show(read: Result<Reading, ReadFault>) {
-    let (number, process): (u32, Words) = match read {
-        Ok(reading) => (0, reading.process),
-        Err(fault) => (fault.into(), Words::default()),
-    };
-    put_number(number);
-    put_words(process);
+    put_number(match read {
+        Ok(_) => 0,
+        Err(fault) => fault.into(),
+    });
+    put_words(reply::process_of(read));
     io::write_all(1, b"\n");
 }
 

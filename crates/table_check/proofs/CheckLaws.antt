@@ -22,13 +22,16 @@ use Rattle.table_check.specs.declared.Records.{Records}
 use Rattle.table_check.specs.Checks.{told, tells, Checked, or_else, record_rule, length_check, records_check, run_check, runs_check, values_check, end_of, content_check, table_check_of}
 
 -- the places of a record
-pub count_few : (e : Entry) → e.elements ≤ 254 → count_of e ≤ 254
+pub count_few : (e : Entry) (m : ℕ) → 1 ≤ m → e.elements ≤ m → count_of e ≤ m
 unfolding count_of
-count_few e h = go (eqb e.elements 0) refl
+count_few e m o h = go (eqb e.elements 0) refl
   where
-    go : (b : Bool) → eqb e.elements 0 ≡ b → cond b 1 e.elements ≤ 254
-    go true q = lit≤ tt
+    go : (b : Bool) → eqb e.elements 0 ≡ b → cond b 1 e.elements ≤ m
+    go true q = o
     go false q = h
+
+pub count_254 : (e : Entry) → e.elements ≤ 254 → count_of e ≤ 254
+count_254 e h = count_few e 254 (lit≤ tt) h
 
 -- the facts of a record that keeps its rules, where `least` is the least number that may stand there and `place` its first place
 pub record Keeps (least place : ℕ) (e : Entry) : Type 0 where

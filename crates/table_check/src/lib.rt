@@ -87,7 +87,7 @@ fn has_upper_half(e: Entry) -> bool
 }
 
 // The first rule that a record breaks: `least` is the least number that may stand there, `place` the first of its places.
-#[tactic(auto, using(crate::proofs::CheckLaws::count_few), unfolding(crate::specs::Checks::record_rule))]
+#[tactic(auto, using(crate::proofs::CheckLaws::count_254), unfolding(crate::specs::Checks::record_rule))]
 fn find_rule(e: Entry, least: u16, place: usize) -> Option<Rule>
     requires { place ≤ 1000000 }
     ensures { result ≡ record_rule least place e }

@@ -152,10 +152,7 @@ pub fn uss_fill_places(table: &[u8], places: &mut [u16]) -> u32
     ensures value { result ≡ opened_number (filling_of table.now (length places.old)) }
     ensures places_after { places.new ≡ filled_by (filling_of table.now (length places.old)) table.now places.old }
 {
-    match places::fill(table, places) {
-        Ok(()) => 0,
-        Err(fault) => fault.into(),
-    }
+    places::fill_numbered(table, places)
 }
 
 pub fn uss_view_open(table: &[u8]) -> Cursor
