@@ -188,7 +188,7 @@ def by_word(lines):
         number = int(match[1])
         return "alwaysinline #0" if number == group else f"#{number - (number > group)}"
 
-    kept = [line for line in lines if not INLINED.fullmatch(line)]
+    kept = [line for line in lines if line != found[0]]
     return [re.sub(r"#(\d+)(?=$| \{| =)", renumbered, line) if line.startswith(("define ", "declare ", "attributes ")) else line for line in kept]
 
 

@@ -86,7 +86,6 @@ use Rattle.content.proofs.is_bad.Reads as content-is-bad
 use Rattle.content.proofs.read_content.Reads as content-read-content
 use Rattle.reply.proofs.read.Reads as reply-read
 use Rattle.reply.proofs.process_of.Reads as reply-process-of
-use Rattle.reply.proofs.process_of.Reads as reply-process-of
 use Rattle.host_slave.proofs.serve.Reads as host-slave-serve
 use Rattle.host_slave.proofs.serve_listed.Reads as host-slave-serve-listed
 use Rattle.host_master.proofs.build_task.Reads as host-master-build-task
